@@ -1,0 +1,5 @@
+pub mod Causes
+pub mod Events
+pub mod Files
+pub mod Sinks
+pub mod Words

@@ -1,0 +1,24 @@
+//! What every other crate speaks of: words and their operators, lists and texts, requests and replies,
+//! and the outside: sinks of text and files.
+#![tactic(auto)]
+
+mod blob;
+mod error;
+mod events;
+mod file_error;
+mod files;
+mod lists;
+mod operators;
+mod sinks;
+mod text;
+
+pub use blob::Blob;
+pub use error::NoMemory;
+pub use events::{End, Reply, Request, Size, fits};
+pub use file_error::FileError;
+pub use files::Workspace;
+pub use lists::single;
+pub use operators::{BinOp, Cmp, IOp, LOp, ROp, SOp, ShOp, ShiftOp, UOp};
+pub use sinks::{Sink, SinkFault, put_all};
+pub use sqlite_items::{Boxed, Items as List};
+pub use text::Text;
