@@ -1,6 +1,6 @@
 -- Requests, replies, traces and ends, without where their bytes lie in memory.
-use Rattle.std.specs.Prelude.{◌≡◌, ℕ, ◌*◌, ◌^◌, ◌<◌, List, [], ◌∷◌, ◌++◌, length}
-use Rattle.pan_base.specs.Words.{IsBytes}
+use Rattle.std.specs.Prelude.{◌≡◌, ℕ, ◌*◌, ◌^◌, List, [], ◌∷◌, ◌++◌, length, Bool, true, false, ◌&&◌, nat_lt, nat_eq, IsTrue}
+use Rattle.std.specs.List.{list_all}
 use Rattle.pan_base.specs.declared.events.Size.{Size}
 use Rattle.pan_base.specs.declared.events.Size.TheVariants.{B1, B2, B4, B8}
 use Rattle.pan_base.specs.declared.events.Request.{Request}
@@ -41,12 +41,16 @@ byte_count B2 = 2
 byte_count B4 = 4
 byte_count B8 = 8
 
+-- whether the reply is one to this request: a value of the size, done, or as many bytes as the array has
+abbrev pub fits : Asked → Replied → Bool
+fits (Load size addr) (Value n) = nat_lt n (2 ^ (8 * byte_count size))
+fits (Store size addr value) Done = true
+fits (Foreign number name conf array) (Bytes bytes) = nat_eq (length bytes) (length array) && list_all (λ b. nat_lt b 256) bytes
+fits _ _ = false
+
 -- a reply that fits a request
 abbrev pub Fits : Asked → Replied → Type 0
-Fits (Load size addr) (Value n) = n < 2 ^ (8 * byte_count size)
-Fits (Store size addr value) Done = Unit {0}
-Fits (Foreign number name conf array) (Bytes bytes) = (length bytes ≡ length array) × IsBytes bytes
-Fits _ _ = ⊥
+Fits q r = IsTrue (fits q r)
 
 -- a request with the reply that it got, which fits
 pub record Event : Type 0 where

@@ -33,7 +33,7 @@ abbrev pub shift : ShOp → ℕ → ℕ → ℕ
 shift Shl a n = a * 2 ^ n % 2 ^ 64
 shift Shr a n = a / 2 ^ n
 shift Sar a n = if nat_lt a (2 ^ 63) then a / 2 ^ n else 2 ^ 64 - 1 - (2 ^ 64 - 1 - a) / 2 ^ n
-shift Ror a n = (a / 2 ^ n + a * 2 ^ (64 - n)) % 2 ^ 64
+shift Ror a n = bit_or (a / 2 ^ n) (a * 2 ^ ((64 - n) % 64) % 2 ^ 64)
 
 -- whether the comparison holds of two words, which `Lt` and `Ge` read in two's complement
 abbrev pub compare : Cmp → ℕ → ℕ → Bool

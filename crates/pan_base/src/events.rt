@@ -1,8 +1,7 @@
 //! Requests, replies and ends.
 
-ghost use Rattle.std.specs.Prelude.{◌≡◌, ◌↔◌, ◌*◌, ◌^◌, ◌<◌, IsTrue, length};
-ghost use Rattle.pan_base.specs.Words.{IsBytes};
-ghost use Rattle.pan_base.specs.Events.{asked, replied, Fits, byte_count};
+ghost use Rattle.std.specs.Prelude.{◌≡◌, ◌↔◌, ◌*◌, ◌^◌, ◌<◌, IsTrue, []};
+ghost use Rattle.pan_base.specs.Events.{asked, replied, Foreign, Bytes, fits, Fits, byte_count};
 
 /// How many bytes an access has: 1, 2, 4 or 8.
 #[derive(Clone, Copy, Debug, PartialEq, Eq)]
@@ -75,7 +74,7 @@ fn value_fits(size: Size, n: u64) -> bool
 }
 
 fn bytes_fit(array: &[u8], bytes: &[u8]) -> bool
-    ensures { IsTrue result ↔ ((length bytes.now ≡ length array.now) × IsBytes bytes.now) }
+    ensures { result ≡ fits (Foreign 0 [] [] array.now) (Bytes bytes.now) }
 {
     bytes.len() == array.len()
 }

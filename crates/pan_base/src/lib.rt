@@ -10,6 +10,7 @@ mod files;
 mod lists;
 mod operators;
 mod sinks;
+mod span;
 mod text;
 
 pub use blob::Blob;
@@ -20,5 +21,6 @@ pub use files::Workspace;
 pub use lists::single;
 pub use operators::{BinOp, Cmp, IOp, LOp, ROp, SOp, ShOp, ShiftOp, UOp};
 pub use sinks::{Sink, SinkFault, put_all};
+pub use span::Span;
 pub use sqlite_items::{Boxed, Items as List};
 pub use text::Text;

@@ -1,0 +1,8 @@
+-- What is seen of a run of the source or of a stage.
+use Rattle.std.specs.Prelude.{ℕ}
+use Rattle.pan_base.specs.Events.{Behaviour}
+
+-- its trace and end, and the most that the costs of its active calls have been
+pub record Seen : Type 0 where
+  pub behaviour : Behaviour
+  pub deepest : ℕ

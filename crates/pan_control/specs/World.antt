@@ -1,0 +1,22 @@
+-- The outside as a program sees it: memory, the replies to come, the trace so far, and the counters.
+use Rattle.std.specs.Prelude.{ℕ, ◌+◌, max, List}
+use Rattle.pan_base.specs.Events.{Replied, Event}
+
+-- all that a statement reads and changes beside its variables
+pub record World : Type 0 where
+  -- the bytes of local memory
+  pub memory : List ℕ
+  pub replies : List Replied
+  pub trace : List Event
+  -- units of fuel that are left
+  pub fuel : ℕ
+  -- the costs of the active calls, that of the running function among them
+  pub active : ℕ
+  -- the cost of the running function
+  pub own : ℕ
+  -- the most that the costs of the active calls have been
+  pub deepest : ℕ
+
+-- a function of this cost is entered
+abbrev pub entered : ℕ → World → World
+entered cost w = record w { active = w.active + cost; own = cost; deepest = max w.deepest (w.active + cost) }

@@ -1,0 +1,56 @@
+-- The bytes of an image.
+use Rattle.std.specs.Prelude.{◌≡◌, ℕ, ◌+◌, ◌-◌, ◌*◌, ◌%◌, ◌^◌, ◌<◌, ◌≤◌, ◌&&◌, ◌||◌, ◌==◌, nat_le, not, Bool, List, [], ◌∷◌, ◌++◌, length, replicate, codes, Option, Some, None, unwrap_or, IsTrue, All}
+use Rattle.std.specs.List.{flat_map, list_all, list_any}
+use Rattle.std.specs.Option.{ForSome}
+use Rattle.std.specs.Str.{bytes_eq}
+use Rattle.std.specs.Int.{w16, w32, w64, to_le_bytes}
+use Rattle.pan_base.specs.Words.{IsBytes}
+
+-- a letter of ASCII or `_`
+abbrev pub is_letter : ℕ → Bool
+is_letter b = (nat_le 65 b && nat_le b 90) || (nat_le 97 b && nat_le b 122) || b == 95
+
+-- a decimal digit
+abbrev pub is_digit : ℕ → Bool
+is_digit b = nat_le 48 b && nat_le b 57
+
+-- a letter, and then letters and digits
+abbrev pub is_spelled : List ℕ → Bool
+is_spelled [] = nat_le 1 0
+is_spelled (b ∷ bs) = is_letter b && list_all (λ c. is_letter c || is_digit c) bs
+
+-- a name of a foreign function: 1 to 64 bytes, spelled as a name or a reserved word, and neither `base` nor `biw`
+abbrev pub is_foreign_name : List ℕ → Bool
+is_foreign_name name = is_spelled name && nat_le (length name) 64 && not (bytes_eq name (codes "base")) && not (bytes_eq name (codes "biw"))
+
+-- each is a foreign name that differs from the names before it
+abbrev pub are_foreign_names : List (List ℕ) → Bool
+are_foreign_names [] = nat_le 0 0
+are_foreign_names (name ∷ names) = is_foreign_name name && not (list_any (λ other. bytes_eq other name) names) && are_foreign_names names
+
+-- the names part: each name after its length
+abbrev pub names_part : List (List ℕ) → List ℕ
+names_part names = flat_map (λ name. to_le_bytes w16 (length name) ++ name) names
+
+-- The layout: the bytes PNK1, then the code's length, the entry 0, the number of names, the bound, the length of the names part,
+-- zero, the names part with zeros up to a multiple of 4, and the code.
+abbrev pub layout : List ℕ → List (List ℕ) → Option ℕ → List ℕ
+layout code names bound =
+    codes "PNK1" ++ to_le_bytes w32 (length code) ++ to_le_bytes w32 0 ++ to_le_bytes w32 (length names) ++ to_le_bytes w64 (unwrap_or bound (2 ^ 64 - 1))
+    ++ to_le_bytes w32 (length (names_part names)) ++ to_le_bytes w32 0
+    ++ names_part names ++ replicate ((4 - length (names_part names) % 4) % 4) 0 ++ code
+
+-- what an image may hold
+pub record IsLawfulImage (code : List ℕ) (names : List (List ℕ)) (bound : Option ℕ) : Type 0 where
+  pub whole : length code % 4 ≡ 0
+  pub most : length code ≤ 268439552
+  pub bytes : IsBytes code
+  pub named : IsTrue (are_foreign_names names)
+  pub count : length names ≤ 1024
+  pub part : length (names_part names) ≤ 67584
+  pub bounded : ForSome bound (λ n. n < 2 ^ 64 - 1)
+
+-- these bytes are the image of this code, these names and this bound
+pub record ImageOf (image code : List ℕ) (names : List (List ℕ)) (bound : Option ℕ) : Type 0 where
+  pub lawful : IsLawfulImage code names bound
+  pub spelled : image ≡ layout code names bound

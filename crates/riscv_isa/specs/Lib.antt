@@ -1,0 +1,6 @@
+pub mod Table
+pub mod Decoded
+pub mod Regions
+pub mod Step
+pub mod Machine
+pub mod Image

@@ -1,0 +1,39 @@
+//! Fields of a word.
+
+ghost use Rattle.std.specs.Prelude.{◌≡◌, ℕ, pos, negsuc, ◌+◌, ◌*◌, ◌^◌, ◌<◌, ◌≤◌, ◌≤ℤ◌};
+ghost use Rattle.pan_base.specs.Words.{signed};
+ghost use Rattle.riscv_isa.specs.Table.{field};
+
+/// The `count` bits of a word from bit `low` on.
+pub fn bits_of(word: u32, low: u32, count: u32) -> u32
+    requires low { low < 32 }
+    requires count { count < 32 }
+    ensures value { result ≡ field low count word }
+    ensures bound { result < 2 ^ count }
+{
+    (word >> low) & ((1 << count) - 1)
+}
+
+/// `high` before the `count` bits of `low`.
+pub fn join(high: u32, count: u32, low: u32) -> u32
+    requires count { count < 32 }
+    requires low { low < 2 ^ count }
+    requires fits { high * 2 ^ count < 2 ^ 32 }
+    ensures { result ≡ high * 2 ^ count + low }
+{
+    high << count | low
+}
+
+/// The 12 bits of a number.
+pub fn unsigned_12(number: i32) -> u32
+    requires low { negsuc 2047 ≤ℤ number }
+    requires high { number ≤ℤ pos 2047 }
+    ensures value { signed 12 result ≡ number }
+    ensures bound { result < 2 ^ 12 }
+{
+    if number < 0 {
+        (number + 4096) as u32
+    } else {
+        number as u32
+    }
+}

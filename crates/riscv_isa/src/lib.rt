@@ -1,0 +1,13 @@
+//! The machine's instructions, what they do, and the form of an image (`specs/`), with the encoder.
+#![tactic(auto)]
+
+mod bits;
+mod encoding;
+mod instr;
+mod pending;
+mod place;
+
+pub use encoding::encode;
+pub use instr::Instr;
+pub use pending::Pending;
+pub use place::{Place, Region};
