@@ -1,23 +1,11 @@
 -- The bytes of an image.
-use Rattle.std.specs.Prelude.{◌≡◌, ℕ, ◌+◌, ◌-◌, ◌*◌, ◌%◌, ◌^◌, ◌<◌, ◌≤◌, ◌&&◌, ◌||◌, ◌==◌, nat_le, not, Bool, List, [], ◌∷◌, ◌++◌, length, replicate, codes, Option, Some, None, unwrap_or, IsTrue, All}
-use Rattle.std.specs.List.{flat_map, list_all, list_any}
+use Rattle.std.specs.Prelude.{◌≡◌, ℕ, ◌+◌, ◌-◌, ◌*◌, ◌%◌, ◌^◌, ◌<◌, ◌≤◌, ◌&&◌, nat_le, not, Bool, true, List, [], ◌∷◌, ◌++◌, length, replicate, codes, Option, Some, None, unwrap_or, IsTrue}
+use Rattle.std.specs.List.{flat_map, list_any}
 use Rattle.std.specs.Option.{ForSome}
 use Rattle.std.specs.Str.{bytes_eq}
 use Rattle.std.specs.Int.{w16, w32, w64, to_le_bytes}
+use Rattle.pan_base.specs.Names.{is_spelled}
 use Rattle.pan_base.specs.Words.{IsBytes}
-
--- a letter of ASCII or `_`
-abbrev pub is_letter : ℕ → Bool
-is_letter b = (nat_le 65 b && nat_le b 90) || (nat_le 97 b && nat_le b 122) || b == 95
-
--- a decimal digit
-abbrev pub is_digit : ℕ → Bool
-is_digit b = nat_le 48 b && nat_le b 57
-
--- a letter, and then letters and digits
-abbrev pub is_spelled : List ℕ → Bool
-is_spelled [] = nat_le 1 0
-is_spelled (b ∷ bs) = is_letter b && list_all (λ c. is_letter c || is_digit c) bs
 
 -- a name of a foreign function: 1 to 64 bytes, spelled as a name or a reserved word, and neither `base` nor `biw`
 abbrev pub is_foreign_name : List ℕ → Bool
@@ -25,7 +13,7 @@ is_foreign_name name = is_spelled name && nat_le (length name) 64 && not (bytes_
 
 -- each is a foreign name that differs from the names before it
 abbrev pub are_foreign_names : List (List ℕ) → Bool
-are_foreign_names [] = nat_le 0 0
+are_foreign_names [] = true
 are_foreign_names (name ∷ names) = is_foreign_name name && not (list_any (λ other. bytes_eq other name) names) && are_foreign_names names
 
 -- the names part: each name after its length

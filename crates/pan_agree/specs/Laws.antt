@@ -1,0 +1,26 @@
+-- What the law of both directions asks of a source, of a machine, and of the forward direction between them.
+use Rattle.std.specs.Prelude.{◌≡◌, ◌≢◌, ◌⊎◌, ℕ, ◌+◌, ◌≤◌}
+use Rattle.pan_base.specs.Events.{Ending, Spent, Stack, Fault, Fails, Behaviour, IsPrefix}
+use Rattle.pan_control.specs.Seen.{Seen}
+use Rattle.pan_agree.specs.Agree.{Overflows}
+
+-- with more steps the machine's events go on, and a run that has ended stays as it is
+pub record IsSteady (machine : ℕ → Behaviour) : Type 0 where
+  pub front : (k j : ℕ) → IsPrefix (machine k).events (machine (k + j)).events
+  pub same : (k j : ℕ) → ((machine k).ending ≡ Spent) ⊎ (machine (k + j) ≡ machine k)
+
+-- the source meets neither a fault nor the end of a stack, which are the machine's
+pub record IsSourceLike (source : ℕ → Seen) : Type 0 where
+  pub no_fault : (n : ℕ) → ((source n).behaviour).ending ≢ Fault
+  pub no_stack : (n : ℕ) → ((source n).behaviour).ending ≢ Stack
+
+-- the machine does in k steps what the source did with n units of fuel, and took as many steps as units where the source was spent
+pub record DoesInTime (n k : ℕ) (s : Seen) (b : Behaviour) : Type 0 where
+  pub same : b ≡ s.behaviour
+  pub in_time : (s.behaviour).ending ≡ Spent → n ≤ k
+
+-- The forward direction, where the steps are at least the fuel that was used: a source that is spent used all of it.
+abbrev pub ForwardInTime : ℕ → (ℕ → Seen) → (ℕ → Behaviour) → Type 0
+ForwardInTime stack source machine =
+    (n : ℕ) → ((source n).behaviour).ending ≢ Fails
+    → (k : ℕ) × (DoesInTime n k (source n) (machine k) ⊎ Overflows stack (source n) (machine k))

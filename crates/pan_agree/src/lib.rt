@@ -1,0 +1,6 @@
+//! What it means that an image is faithful to a program (`specs/`), and the law that gives both directions of it.
+#![tactic(auto)]
+
+mod laws;
+
+pub use laws::both_ways;

@@ -1,0 +1,6 @@
+//! Compiles straight-line programs to images.
+#![tactic(auto)]
+
+mod compiling;
+
+pub use compiling::compile;

@@ -1,0 +1,6 @@
+//! Reads straight-line sources.
+#![tactic(auto)]
+
+mod reading;
+
+pub use reading::read;
