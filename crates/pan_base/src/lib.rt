@@ -20,7 +20,7 @@ pub use file_error::FileError;
 pub use files::Workspace;
 pub use lists::single;
 pub use operators::{BinOp, Cmp, IOp, LOp, ROp, SOp, ShOp, ShiftOp, UOp};
-pub use sinks::{Sink, SinkFault, put_all};
+pub use sinks::{Sink, SinkFault, put_all, put_each};
 pub use span::Span;
 pub use sqlite_items::{Boxed, Items as List};
 pub use text::Text;

@@ -1,0 +1,8 @@
+//! The top call: `panc` on the words of its command line, over any files and any sink of text.
+#![tactic(auto)]
+
+mod building;
+mod command;
+mod status;
+
+pub use command::panc;
