@@ -3,6 +3,7 @@ pub mod Counts
 pub mod Events
 pub mod Files
 pub mod LineCount
+pub mod MemFiles
 pub mod MemSink
 pub mod Names
 pub mod Sinks
