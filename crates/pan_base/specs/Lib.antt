@@ -1,6 +1,10 @@
 pub mod Causes
+pub mod Counts
 pub mod Events
 pub mod Files
+pub mod LineCount
+pub mod MemFiles
+pub mod MemSink
 pub mod Names
 pub mod Sinks
 pub mod Words
