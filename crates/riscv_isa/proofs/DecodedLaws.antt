@@ -1,5 +1,5 @@
 -- The function that decodes a word is the table: it gives the instruction that a word stands for, and no other.
-use Rattle.std.proofs.Common.{◌≡◌, ℕ, ℤ, ◌<◌, ◌+◌, ◌*◌, ◌^◌, refl, sym, ap, ◌∙◌, subst, arith, Bool, true, false, Option, Some, None, List, [], ◌∷◌, cond}
+use Rattle.std.proofs.Common.{◌≡◌, ℕ, ℤ, ◌<◌, ◌+◌, ◌*◌, ◌^◌, refl, sym, subst, Bool, true, false, Option, Some, None, List, [], ◌∷◌, cond}
 use Rattle.std.specs.Prelude.{◌==◌, ◌&&◌, ◌||◌, find, IfSome}
 use Rattle.std.specs.Option.{option_map}
 use Rattle.std.proofs.lemmas.Bool.{cond_both, eqb-true, and_parts}
@@ -15,7 +15,7 @@ use Rattle.pan_base.specs.declared.operators.SOp.{SOp}
 use Rattle.pan_base.specs.declared.operators.SOp.TheVariants.{Sb, Sh, Sw, Sd}
 use Rattle.riscv_isa.specs.declared.instr.Instr.{Instr}
 use Rattle.riscv_isa.specs.declared.instr.Instr.TheVariants as instr
-use Rattle.riscv_isa.specs.Table.{Instruction, Code, RFormat, IFormat, ShFormat, ShwFormat, ShRow, SFormat, UFormat, field, r_code, i_opcode, i_funct3, s_funct3, u_opcode}
+use Rattle.riscv_isa.specs.Table.{Instruction, RFormat, IFormat, ShFormat, ShwFormat, ShRow, SFormat, UFormat, field, r_code, i_opcode, i_funct3, s_funct3, u_opcode}
 use Rattle.pan_base.specs.Words.{signed}
 use Rattle.riscv_isa.specs.Decoded.{r_ops, i_ops, s_ops, r_read, i_read, s_read, sh_read, or_else, decoded}
 

@@ -4,6 +4,8 @@
 mod bits;
 mod encoding;
 mod instr;
+#[cfg(test)]
+mod known_words;
 mod laws;
 mod pending;
 mod place;
