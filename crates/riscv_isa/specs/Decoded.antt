@@ -1,5 +1,5 @@
 -- The instruction of a word, as a function: the operation of the table whose fields are the word's.
-use Rattle.std.specs.Prelude.{◌≡◌, ℕ, ◌+◌, ◌*◌, ◌^◌, ◌==◌, ◌&&◌, ◌||◌, Bool, List, [], ◌∷◌, Option, Some, None, if◌then◌else◌, find}
+use Rattle.std.specs.Prelude.{ℕ, ◌+◌, ◌*◌, ◌^◌, ◌==◌, ◌&&◌, ◌||◌, List, [], ◌∷◌, Option, Some, None, if◌then◌else◌, find}
 use Rattle.std.specs.Option.{option_map}
 use Rattle.pan_base.specs.declared.operators.ROp.{ROp}
 use Rattle.pan_base.specs.declared.operators.ROp.TheVariants.{Add, Sub, Sll, Slt, Sltu, Xor, Srl, Sra, Or, And, Mul, Mulhu, Addw, Subw, Sllw, Srlw, Sraw}

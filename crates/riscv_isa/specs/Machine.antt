@@ -2,7 +2,6 @@
 use Rattle.std.specs.Prelude.{◌≡◌, ℕ, zero, suc, ◌+◌, ◌%◌, ◌≤◌, List, [], ◌∷◌, length, Bool, true, false, replicate, slice_set}
 use Rattle.pan_base.specs.Words.{IsBytes}
 use Rattle.pan_base.specs.Events.{Asked, Replied, Stopped, Asks, Spent, Behaviour, only, before, fits}
-use Rattle.riscv_isa.specs.Regions.{Memory}
 use Rattle.riscv_isa.specs.Step.{State, Config, Runs, Waits, Over, step, request_of, resumed}
 
 -- a reply that fits its request is an event before the rest, and another one ends the run

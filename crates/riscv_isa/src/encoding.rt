@@ -205,4 +205,3 @@ pub fn encode(instr: Instr) -> u32
         Instr::Ecall => 0x0000_0073,
     }
 }
-

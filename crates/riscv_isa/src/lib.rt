@@ -4,10 +4,14 @@
 mod bits;
 mod encoding;
 mod instr;
+#[cfg(test)]
+mod known_words;
+mod laws;
 mod pending;
 mod place;
 
 pub use encoding::encode;
 pub use instr::Instr;
+pub use laws::decoded_is_the_table;
 pub use pending::Pending;
 pub use place::{Place, Region};
