@@ -2,5 +2,6 @@
 #![tactic(auto)]
 
 mod compiling;
+mod constants;
 
 pub use compiling::compile;

@@ -1,0 +1,3 @@
+pub mod Follow
+pub mod Spells
+pub mod Performs

@@ -1,0 +1,48 @@
+-- When instructions do what statements of the source mean.
+use Rattle.std.specs.Prelude.{◌≡◌, ◌≢◌, ℕ, ◌+◌, ◌≤◌, List, ◌++◌, length}
+use Rattle.std.specs.List.{All}
+use Rattle.pan_base.specs.declared.events.Size.TheVariants.{B8}
+use Rattle.pan_base.specs.Events.{Replied, Behaviour, Fails}
+use Rattle.pan_control.specs.World.{World}
+use Rattle.pan_control.specs.Control.{Outcome, Normal, Broken, Continued, Returned, Raised, Over, left}
+use Rattle.pan_tree.specs.Value.{Value, Scopes}
+use Rattle.pan_tree.specs.Meaning.{Does, seen}
+use Rattle.pan_tree.specs.declared.syntax.StmtKind.{StmtKind}
+use Rattle.pan_tree.specs.declared.syntax.StmtKind.TheVariants as stmt
+use Rattle.riscv_isa.specs.declared.instr.Instr.{Instr}
+use Rattle.riscv_isa.specs.declared.place.Region.{Region}
+use Rattle.riscv_isa.specs.Table.{InRange}
+use Rattle.riscv_isa.specs.Regions.{begin, bytes_of}
+use Rattle.riscv_isa.specs.Step.{State}
+use Rattle.straight_compiler.specs.Follow.{follow}
+
+-- a statement of the straight-line form: its stores are of 64 bits
+abbrev pub IsPlain : StmtKind → Type 0
+IsPlain (stmt.Return e) = Unit {0}
+IsPlain (stmt.SharedStore size a e) = size ≡ B8
+
+-- what is seen of a run that has come to this world and goes on so
+abbrev pub shown : World → Behaviour → Behaviour
+shown w b = record { events = w.trace ++ b.events; ending = b.ending }
+
+-- what is seen of a function that has come to this outcome, and goes on after a normal one
+abbrev pub shown_after : Outcome Scopes Value → (List Replied → Behaviour) → Behaviour
+shown_after (Normal v w) go = shown w (go w.replies)
+shown_after o go = (seen (left o)).behaviour
+
+-- a state with 32 registers, whose regions end before the shared window
+pub record IsReady (s : State) : Type 0 where
+  pub registers : length s.registers ≡ 32
+  pub below : (r : Region) → begin r + length (bytes_of r s.memory) ≤ 0x40000000
+
+-- from this state the instructions do what the statements do and lead to a ready state, short of a failing step
+pub record PerformsFrom (meaning : Does) (code : List Instr) (s : State) : Type 0 where
+  pub state : State
+  pub ready : IsReady state
+  pub same : (go : State → List Replied → Behaviour) (v : Scopes) (w : World)
+      → (shown_after (meaning v w) (go state)).ending ≢ Fails → shown w (follow code go s w.replies) ≡ shown_after (meaning v w) (go state)
+
+-- the instructions do what the statements do
+pub record Performs (meaning : Does) (code : List Instr) : Type 0 where
+  pub in_range : All InRange code
+  pub does : (s : State) → IsReady s → PerformsFrom meaning code s
