@@ -5,7 +5,7 @@ use Rattle.std.specs.List.{position_or_len}
 use Rattle.std.specs.Str.{bytes_eq}
 use Rattle.std.proofs.lemmas.Slice.Eq.{bytes_eq-Decides}
 use Rattle.std.proofs.lemmas.List.Quantifiers.{position-Some}
-use Rattle.pan_base.specs.Files.{Stored, StoredInPart}
+use Rattle.pan_base.specs.Files.{Stored, StoredBelow, StoredInPart}
 use Rattle.pan_base.specs.MemFiles.{file_at, with_file}
 
 same_name : (name : List ℕ) → bytes_eq name name ≡ true
@@ -42,11 +42,11 @@ with_file-None files name bytes h = stored_last files name bytes (grind arith)
 pub stored_whole : (files : List (List ℕ × List ℕ)) (name bytes : List ℕ) → Stored (Some (file_at files)) (Some (file_at (with_file files name bytes))) name bytes
 stored_whole files name bytes = (file_at-with_file files name bytes, file_at-with_file-other files name bytes)
 
-pub stored_nothing : (files : List (List ℕ × List ℕ)) (name bytes : List ℕ) → StoredInPart (Some (file_at files)) (Some (file_at files)) name bytes
-stored_nothing files name bytes = (inl refl, λ other h. refl)
+pub stored_nothing : (limit : ℕ) (files : List (List ℕ × List ℕ)) (name bytes : List ℕ) → StoredBelow limit (Some (file_at files)) (Some (file_at files)) name bytes
+stored_nothing limit files name bytes = (inl refl, λ other h. refl)
 
 -- a front of the bytes was stored, or there was no memory for it
-pub stored_front : {A E : Type 0} (r : Result A E) (files new : List (List ℕ × List ℕ)) (name bytes : List ℕ) (n : ℕ) → OnOk r (new ≡ with_file files name (take n bytes)) → OnErr r (new ≡ files) → StoredInPart (Some (file_at files)) (Some (file_at new)) name bytes
-stored_front (Ok x) files new name bytes n ok err =
-    rw ok (inr (n, file_at-with_file files name (take n bytes)), file_at-with_file-other files name (take n bytes))
-stored_front (Err x) files new name bytes n ok err = rw err (stored_nothing files name bytes)
+pub stored_front : {A E : Type 0} (r : Result A E) (files new : List (List ℕ × List ℕ)) (name bytes : List ℕ) (n : ℕ) → n ≤ length bytes → OnOk r (new ≡ with_file files name (take n bytes)) → OnErr r (new ≡ files) → StoredInPart (Some (file_at files)) (Some (file_at new)) name bytes
+stored_front (Ok x) files new name bytes n within ok err =
+    rw ok (inr (n, omega arith, file_at-with_file files name (take n bytes)), file_at-with_file-other files name (take n bytes))
+stored_front (Err x) files new name bytes n within ok err = rw err (stored_nothing _ files name bytes)

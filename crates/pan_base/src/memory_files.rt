@@ -1,6 +1,6 @@
 //! Files in memory.
 
-ghost use Rattle.std.specs.Prelude.{◌≡◌, ◌≢◌, position, Err, None, IfOk, OnOk, OnErr, IfSome, OnSome, IfNone, IsSome, IsNone, ◌↔◌};
+ghost use Rattle.std.specs.Prelude.{◌≡◌, position, Err, None, IfOk, OnOk, OnErr, IfSome, OnSome, IfNone, IsSome, IsNone, ◌↔◌};
 ghost use Rattle.std.specs.Option.{option_copied};
 ghost use Rattle.std.specs.Str.{bytes_eq};
 ghost use Rattle.pan_base.specs.Files.{Reads, NoneChanged, Writes, FaultCause};
@@ -163,7 +163,6 @@ impl Workspace for MemFiles {
 
     fn write(&mut self, alloc: Global, name: &str, bytes: &[u8]) -> Result<(), FileError>
         ensures stored { Writes (mem_files_told self.old).files (mem_files_told self.new).files name.now bytes.now result }
-        ensures there { result ≢ Err FileError.Missing }
         ensures reads { self.new.failed_reads ≡ self.old.failed_reads }
         ensures writes { FaultCause self.old.failed_writes self.new.failed_writes result }
 
