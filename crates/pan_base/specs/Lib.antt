@@ -6,5 +6,7 @@ pub mod LineCount
 pub mod MemFiles
 pub mod MemSink
 pub mod Names
+pub mod RealFiles
+pub mod RealOut
 pub mod Sinks
 pub mod Words
