@@ -37,3 +37,31 @@ pub fn unsigned_12(number: i32) -> u32
         number as u32
     }
 }
+
+/// The 13 bits of a number.
+pub fn unsigned_13(number: i32) -> u32
+    requires low { negsuc 4095 ≤ℤ number }
+    requires high { number ≤ℤ pos 4095 }
+    ensures value { signed 13 result ≡ number }
+    ensures bound { result < 2 ^ 13 }
+{
+    if number < 0 {
+        (number + 8192) as u32
+    } else {
+        number as u32
+    }
+}
+
+/// The 21 bits of a number.
+pub fn unsigned_21(number: i32) -> u32
+    requires low { negsuc 1048575 ≤ℤ number }
+    requires high { number ≤ℤ pos 1048575 }
+    ensures value { signed 21 result ≡ number }
+    ensures bound { result < 2 ^ 21 }
+{
+    if number < 0 {
+        (number + 2097152) as u32
+    } else {
+        number as u32
+    }
+}

@@ -2,6 +2,7 @@
 #![tactic(auto)]
 
 mod bits;
+mod codes;
 mod encoding;
 mod instr;
 #[cfg(test)]
@@ -13,5 +14,5 @@ mod place;
 pub use encoding::encode;
 pub use instr::Instr;
 pub use laws::decoded_is_the_table;
-pub use pending::Pending;
+pub use pending::{Buffer, Pending};
 pub use place::{Place, Region};
