@@ -16,7 +16,7 @@ use Rattle.riscv_isa.specs.declared.pending.Pending.TheVariants as pending
 use Rattle.riscv_isa.specs.Decoded.{decoded}
 use Rattle.riscv_isa.specs.Regions.{Memory, begin, bytes_of, with_bytes, is_in, place_of, number_at, with_number, part, with_part}
 use Rattle.riscv_isa.specs.Results.{r_result, i_result, sh_result, u_result, l_result, loads, stores}
-pub use Rattle.riscv_isa.specs.Results.{plus, upper}
+unfoldable pub use Rattle.riscv_isa.specs.Results.{plus, upper}
 
 -- the 32 registers, the program counter, the bytes of the code, the names of the foreign functions, and data memory
 pub record State : Type 0 where
