@@ -3,6 +3,7 @@
 
 mod bits;
 mod codes;
+mod decoding;
 mod encoding;
 mod instr;
 #[cfg(test)]
@@ -11,6 +12,7 @@ mod laws;
 mod pending;
 mod place;
 
+pub use decoding::decode;
 pub use encoding::encode;
 pub use instr::Instr;
 pub use laws::decoded_is_the_table;
