@@ -15,6 +15,6 @@ mod place;
 pub use decoding::decode;
 pub use encoding::encode;
 pub use instr::Instr;
-pub use laws::decoded_is_the_table;
+pub use laws::{decoded_is_the_table, read_written, write_read};
 pub use pending::{Buffer, Pending};
 pub use place::{Place, Region};
