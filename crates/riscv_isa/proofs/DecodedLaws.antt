@@ -13,11 +13,15 @@ use Rattle.pan_base.specs.declared.operators.UOp.{UOp}
 use Rattle.pan_base.specs.declared.operators.UOp.TheVariants.{Lui, Auipc}
 use Rattle.pan_base.specs.declared.operators.SOp.{SOp}
 use Rattle.pan_base.specs.declared.operators.SOp.TheVariants.{Sb, Sh, Sw, Sd}
+use Rattle.pan_base.specs.declared.operators.LOp.{LOp}
+use Rattle.pan_base.specs.declared.operators.LOp.TheVariants.{Lb, Lh, Lw, Ld, Lbu, Lhu, Lwu}
+use Rattle.pan_base.specs.declared.operators.Cmp.{Cmp}
+use Rattle.pan_base.specs.declared.operators.Cmp.TheVariants.{Eq, Ne, Lt, Ge, Ltu, Geu}
 use Rattle.riscv_isa.specs.declared.instr.Instr.{Instr}
 use Rattle.riscv_isa.specs.declared.instr.Instr.TheVariants as instr
-use Rattle.riscv_isa.specs.Table.{Instruction, RFormat, IFormat, ShFormat, ShwFormat, ShRow, SFormat, UFormat, field, r_code, i_opcode, i_funct3, s_funct3, u_opcode}
+use Rattle.riscv_isa.specs.Table.{Instruction, RFormat, IFormat, ShFormat, ShwFormat, ShRow, SFormat, BFormat, UFormat, JFormat, FenceFormat, field, r_code, i_opcode, i_funct3, s_funct3, u_opcode, l_funct3, b_funct3}
 use Rattle.pan_base.specs.Words.{signed}
-use Rattle.riscv_isa.specs.Decoded.{r_ops, i_ops, s_ops, r_read, i_read, s_read, sh_read, or_else, decoded}
+use Rattle.riscv_isa.specs.Decoded.{r_ops, i_ops, s_ops, l_ops, b_ops, r_read, i_read, s_read, l_read, b_read, j_read, jalr_read, fence_read, sh_read, or_else, decoded}
 
 -- a word that stands for an instruction is decoded to it
 
@@ -66,6 +70,36 @@ unfolding decoded
 reads_u w Lui rd high h = rw (h.at_opcode, h.at_rd, h.at_high) refl
 reads_u w Auipc rd high h = rw (h.at_opcode, h.at_rd, h.at_high) refl
 
+l_found : (op : LOp) → find (λ o. l_funct3 o == l_funct3 op) l_ops ≡ Some op
+l_found = elim [ Lb ↦ refl | Lh ↦ refl | Lw ↦ refl | Ld ↦ refl | Lbu ↦ refl | Lhu ↦ refl | Lwu ↦ refl ]
+
+b_found : (op : Cmp) → find (λ o. b_funct3 o == b_funct3 op) b_ops ≡ Some op
+b_found = elim [ Eq ↦ refl | Ne ↦ refl | Lt ↦ refl | Ge ↦ refl | Ltu ↦ refl | Geu ↦ refl ]
+
+reads_l : (w : ℕ) (op : LOp) (rd rs1 : ℕ) (imm : ℤ) → IFormat w 0b0000011 (l_funct3 op) rd rs1 imm → decoded w ≡ Some (instr.L op rd rs1 imm)
+unfolding decoded l_read
+reads_l w op rd rs1 imm h = rw (h.at_opcode, h.at_funct3, h.at_rd, h.at_rs1, h.at_imm, l_found op) refl
+
+reads_b : (w : ℕ) (op : Cmp) (rs1 rs2 : ℕ) (imm : ℤ) → BFormat w 0b1100011 (b_funct3 op) rs1 rs2 imm → decoded w ≡ Some (instr.B op rs1 rs2 imm)
+unfolding decoded b_read
+reads_b w op rs1 rs2 imm h = rw (h.at_opcode, h.at_funct3, h.at_rs1, h.at_rs2, h.at_imm, b_found op) refl
+
+reads_jal : (w rd : ℕ) (imm : ℤ) → JFormat w 0b1101111 rd imm → decoded w ≡ Some (instr.Jal rd imm)
+unfolding decoded j_read
+reads_jal w rd imm h = rw (h.at_opcode, h.at_rd, h.at_imm) refl
+
+reads_jalr : (w rd rs1 : ℕ) (imm : ℤ) → IFormat w 0b1100111 0b000 rd rs1 imm → decoded w ≡ Some (instr.Jalr rd rs1 imm)
+unfolding decoded jalr_read
+reads_jalr w rd rs1 imm h = rw (h.at_opcode, h.at_funct3, h.at_rd, h.at_rs1, h.at_imm) refl
+
+reads_fence : (w high rd : ℕ) → FenceFormat w 0b0001111 0b000 high rd → decoded w ≡ Some (instr.Fence high rd)
+unfolding decoded fence_read
+reads_fence w high rd h = rw (h.at_opcode, h.at_funct3, h.at_high, h.at_rd) refl
+
+reads_ebreak : (w : ℕ) → w ≡ 0x00100073 → decoded w ≡ Some instr.Ebreak
+unfolding decoded
+reads_ebreak w e = rw e refl
+
 reads_ecall : (w : ℕ) → w ≡ 0x00000073 → decoded w ≡ Some instr.Ecall
 unfolding decoded
 reads_ecall w e = rw e refl
@@ -76,7 +110,13 @@ reads w (instr.I op rd rs1 imm) h = reads_i w op rd rs1 imm h
 reads w (instr.Sh op rd rs1 amount) h = reads_sh w op rd rs1 amount h
 reads w (instr.S op rs1 rs2 imm) h = reads_s w op rs1 rs2 imm h
 reads w (instr.U op rd high) h = reads_u w op rd high h
+reads w (instr.L op rd rs1 imm) h = reads_l w op rd rs1 imm h
+reads w (instr.B op rs1 rs2 imm) h = reads_b w op rs1 rs2 imm h
+reads w (instr.Jal rd imm) h = reads_jal w rd imm h
+reads w (instr.Jalr rd rs1 imm) h = reads_jalr w rd rs1 imm h
+reads w (instr.Fence high rd) h = reads_fence w high rd h
 reads w instr.Ecall h = reads_ecall w h
+reads w instr.Ebreak h = reads_ebreak w h
 
 -- an instruction that a word is decoded to is the one that the word stands for
 
@@ -175,6 +215,43 @@ u_fits w op below h = record { fits = record { word = below; at_opcode = eqb-tru
 shifted_fits : (w : ℕ) → w < 2 ^ 32 → Reads w (or_else (i_read w) (sh_read w))
 shifted_fits w below = record { fits = else_fits (Instruction w) (i_read w) (sh_read w) (i_fits w below) (sh_fits w below).fits }
 
+l_row : (w : ℕ) → w < 2 ^ 32 → field 0 7 w ≡ 0b0000011 → (op : LOp) → (l_funct3 op == field 12 3 w) ≡ true → IFormat w 0b0000011 (l_funct3 op) (field 7 5 w) (field 15 5 w) (signed 12 (field 20 12 w))
+l_row w below at op h = record { word = below; at_opcode = at; at_rd = refl; at_funct3 = sym (eqb-true _ _ h); at_rs1 = refl; at_imm = refl }
+
+l_fits : (w : ℕ) → w < 2 ^ 32 → field 0 7 w ≡ 0b0000011 → IfSome (l_read w) (Instruction w)
+unfolding l_read
+l_fits w below at = map_fits (λ op. instr.L op (field 7 5 w) (field 15 5 w) (signed 12 (field 20 12 w))) (Instruction w) _ (found_fits _ (λ op. IFormat w 0b0000011 (l_funct3 op) (field 7 5 w) (field 15 5 w) (signed 12 (field 20 12 w))) (l_row w below at) l_ops)
+
+-- the immediate of a branch
+b_imm : ℕ → ℤ
+b_imm w = signed 13 (field 31 1 w * 2 ^ 12 + field 7 1 w * 2 ^ 11 + field 25 6 w * 2 ^ 5 + field 8 4 w * 2)
+
+b_row : (w : ℕ) → w < 2 ^ 32 → field 0 7 w ≡ 0b1100011 → (op : Cmp) → (b_funct3 op == field 12 3 w) ≡ true → BFormat w 0b1100011 (b_funct3 op) (field 15 5 w) (field 20 5 w) (b_imm w)
+unfolding b_imm
+b_row w below at op h = record { word = below; at_opcode = at; at_funct3 = sym (eqb-true _ _ h); at_rs1 = refl; at_rs2 = refl; at_imm = refl }
+
+b_fits : (w : ℕ) → w < 2 ^ 32 → field 0 7 w ≡ 0b1100011 → IfSome (b_read w) (Instruction w)
+unfolding b_read b_imm
+b_fits w below at = map_fits (λ op. instr.B op (field 15 5 w) (field 20 5 w) (b_imm w)) (Instruction w) _ (found_fits _ (λ op. BFormat w 0b1100011 (b_funct3 op) (field 15 5 w) (field 20 5 w) (b_imm w)) (b_row w below at) b_ops)
+
+j_fits : (w : ℕ) → w < 2 ^ 32 → field 0 7 w ≡ 0b1101111 → Reads w (j_read w)
+unfolding j_read
+j_fits w below at = record { fits = record { word = below; at_opcode = at; at_rd = refl; at_imm = refl } }
+
+jalr_fits : (w : ℕ) → w < 2 ^ 32 → field 0 7 w ≡ 0b1100111 → Reads w (jalr_read w)
+unfolding jalr_read
+jalr_fits w below at =
+    if_fits (field 12 3 w == 0b000) _ _
+    (λ e. record { fits = record { word = below; at_opcode = at; at_rd = refl; at_funct3 = eqb-true (field 12 3 w) 0b000 e; at_rs1 = refl; at_imm = refl } })
+    (λ _. none_row)
+
+fence_fits : (w : ℕ) → w < 2 ^ 32 → field 0 7 w ≡ 0b0001111 → Reads w (fence_read w)
+unfolding fence_read
+fence_fits w below at =
+    if_fits (field 12 3 w == 0b000) _ _
+    (λ e. record { fits = record { word = below; at_opcode = at; at_rd = refl; at_funct3 = eqb-true (field 12 3 w) 0b000 e; at_high = refl } })
+    (λ _. none_row)
+
 decoded_fits : (w : ℕ) → w < 2 ^ 32 → Reads w (decoded w)
 unfolding decoded
 decoded_fits w below =
@@ -183,7 +260,13 @@ decoded_fits w below =
     if_fits (field 0 7 w == 0b0100011) _ _ (λ e. record { fits = s_fits w below (eqb-true _ _ e) }) (λ _.
     if_fits (field 0 7 w == u_opcode Lui) _ _ (u_fits w Lui below) (λ _.
     if_fits (field 0 7 w == u_opcode Auipc) _ _ (u_fits w Auipc below) (λ _.
-    if_fits (w == 0x00000073) (Some instr.Ecall) None (λ e. record { fits = eqb-true w 0x00000073 e }) (λ _. none_row))))))
+    if_fits (field 0 7 w == 0b0000011) _ _ (λ e. record { fits = l_fits w below (eqb-true _ _ e) }) (λ _.
+    if_fits (field 0 7 w == 0b1100011) _ _ (λ e. record { fits = b_fits w below (eqb-true _ _ e) }) (λ _.
+    if_fits (field 0 7 w == 0b1101111) _ _ (λ e. j_fits w below (eqb-true _ _ e)) (λ _.
+    if_fits (field 0 7 w == 0b1100111) _ _ (λ e. jalr_fits w below (eqb-true _ _ e)) (λ _.
+    if_fits (field 0 7 w == 0b0001111) _ _ (λ e. fence_fits w below (eqb-true _ _ e)) (λ _.
+    if_fits (w == 0x00000073) (Some instr.Ecall) _ (λ e. record { fits = eqb-true w 0x00000073 e }) (λ _.
+    if_fits (w == 0x00100073) (Some instr.Ebreak) None (λ e. record { fits = eqb-true w 0x00100073 e }) (λ _. none_row))))))))))))
 
 pub fits : (w : ℕ) (i : Instr) → w < 2 ^ 32 → decoded w ≡ Some i → Instruction w i
 fits w i below e = some_fits (Instruction w) (decoded w) i (decoded_fits w below).fits e

@@ -1,6 +1,6 @@
 //! Instructions.
 
-use pan_base::{IOp, ROp, SOp, ShiftOp, UOp};
+use pan_base::{Cmp, IOp, LOp, ROp, SOp, ShiftOp, UOp};
 
 /// An instruction of RV64I with MUL and MULHU, by its format in the RISC-V unprivileged ISA. `rd` is the register that
 /// is written, `rs1` and `rs2` are those that are read.
@@ -40,6 +40,38 @@ pub enum Instr {
         rd: u8,
         high: u32,
     },
+    /// A load from `rs1` and the immediate.
+    L {
+        op: LOp,
+        rd: u8,
+        rs1: u8,
+        imm: i32,
+    },
+    /// A branch by the immediate, where the comparison holds of `rs1` and `rs2`: BEQ, BNE, BLT, BGE, BLTU or BGEU.
+    B {
+        op: Cmp,
+        rs1: u8,
+        rs2: u8,
+        imm: i32,
+    },
+    /// A jump by the immediate that links in `rd`.
+    Jal {
+        rd: u8,
+        imm: i32,
+    },
+    /// A jump to `rs1` and the immediate that links in `rd`.
+    Jalr {
+        rd: u8,
+        rs1: u8,
+        imm: i32,
+    },
+    /// A fence, which has no effect here. `high` are the bits 15 to 31 of its word, which are kept.
+    Fence {
+        high: u32,
+        rd: u8,
+    },
     /// A call of the environment.
     Ecall,
+    /// A breakpoint.
+    Ebreak,
 }

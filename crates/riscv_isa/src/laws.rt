@@ -1,9 +1,31 @@
-//! The law that the function that decodes a word is the table, on a call that does nothing.
+//! Laws of words and instructions: encoding and decoding undo each other, and decoding is the table.
 
-ghost use Rattle.std.specs.Prelude.{◌≡◌, ℕ, Some, ◌^◌, ◌<◌};
-ghost use Rattle.riscv_isa.specs.Table.{Instruction};
+ghost use Rattle.std.specs.Prelude.{◌≡◌, ℕ, IfSome, Some, ◌^◌, ◌<◌};
+ghost use Rattle.riscv_isa.specs.Table.{Instruction, InRange};
 ghost use Rattle.riscv_isa.specs.Decoded.{decoded};
 ghost use Rattle.riscv_isa.specs.declared.instr.Instr.{Instr};
+
+use crate::decoding::decode;
+use crate::encoding::encode;
+use crate::instr::Instr;
+
+/// What is encoded is decoded to the same instruction.
+pub fn read_written(instr: Instr) -> Option<Instr>
+    requires { InRange instr }
+    ensures { result ≡ Some instr }
+{
+    decode(encode(instr))
+}
+
+/// What is decoded is encoded to the same word.
+pub fn write_read(word: u32) -> Option<u32>
+    ensures { IfSome result (λ again. again ≡ word) }
+{
+    match decode(word) {
+        Some(instr) => Some(encode(instr)),
+        None => None,
+    }
+}
 
 /// A word that stands for an instruction is decoded to it, and what a word of 32 bits is decoded to is what it stands for.
 pub fn decoded_is_the_table()

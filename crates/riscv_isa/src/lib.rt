@@ -2,6 +2,8 @@
 #![tactic(auto)]
 
 mod bits;
+mod codes;
+mod decoding;
 mod encoding;
 mod instr;
 #[cfg(test)]
@@ -10,8 +12,9 @@ mod laws;
 mod pending;
 mod place;
 
+pub use decoding::decode;
 pub use encoding::encode;
 pub use instr::Instr;
-pub use laws::decoded_is_the_table;
-pub use pending::Pending;
+pub use laws::{decoded_is_the_table, read_written, write_read};
+pub use pending::{Buffer, Pending};
 pub use place::{Place, Region};
