@@ -15,6 +15,8 @@ mod operators;
 mod real;
 mod sinks;
 mod span;
+#[cfg(test)]
+mod tests;
 mod text;
 
 pub use blob::Blob;
