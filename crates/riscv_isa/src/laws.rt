@@ -1,6 +1,6 @@
 //! Laws of words and instructions: encoding and decoding undo each other, and decoding is the table.
 
-ghost use Rattle.std.specs.Prelude.{◌≡◌, ℕ, IfSome, Some, ◌^◌, ◌<◌};
+ghost use Rattle.std.specs.Prelude.{◌≡◌, ℕ, Some, option_map, ◌^◌, ◌<◌};
 ghost use Rattle.riscv_isa.specs.Table.{Instruction, InRange};
 ghost use Rattle.riscv_isa.specs.Decoded.{decoded};
 ghost use Rattle.riscv_isa.specs.declared.instr.Instr.{Instr};
@@ -17,9 +17,9 @@ pub fn read_written(instr: Instr) -> Option<Instr>
     decode(encode(instr))
 }
 
-/// What is decoded is encoded to the same word.
+/// What is decoded is encoded to the same word. `None` where the word stands for no instruction.
 pub fn write_read(word: u32) -> Option<u32>
-    ensures { IfSome result (λ again. again ≡ word) }
+    ensures { result ≡ option_map (λ _. word) (decoded word) }
 {
     match decode(word) {
         Some(instr) => Some(encode(instr)),

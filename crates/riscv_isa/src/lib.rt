@@ -1,6 +1,8 @@
 //! The machine's instructions, what they do, and the form of an image (`specs/`), with the encoder.
 #![tactic(auto)]
 
+#[cfg(test)]
+mod assembled_words;
 mod bits;
 mod codes;
 mod decoding;
