@@ -10,3 +10,6 @@ pub mod RealFiles
 pub mod RealOut
 pub mod Sinks
 pub mod Words
+pub mod Spelling
+pub mod Tokens
+pub mod Lexing

@@ -18,6 +18,7 @@ mod span;
 #[cfg(test)]
 mod tests;
 mod text;
+mod tokens;
 
 pub use blob::Blob;
 pub use error::NoMemory;
@@ -29,8 +30,9 @@ pub use lists::single;
 pub use memory_files::{Failing, MemFiles};
 pub use memory_sink::MemSink;
 pub use operators::{BinOp, Cmp, IOp, LOp, ROp, SOp, ShOp, ShiftOp, UOp};
-pub use sinks::{Sink, SinkFault, put_all, put_each};
 pub use real::{RealFiles, RealOut};
+pub use sinks::{Sink, SinkFault, put_all, put_each};
 pub use span::Span;
 pub use sqlite_items::{Boxed, Items as List};
 pub use text::Text;
+pub use tokens::{Keyword, Sign, Token, TokenKind};
