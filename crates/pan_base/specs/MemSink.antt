@@ -2,7 +2,7 @@
 use Rattle.std.specs.Prelude.{◌⊎◌, ℕ, ◌<◌, List, length, Some, Contains}
 use Rattle.pan_base.specs.Sinks.{SinkState, feeds}
 
--- the bytes that it took, the room that is left, the number of the next put, the numbers of those that fail, and how many failed
+-- the bytes that it took, the room that is left, the number of the next put, the puts that fail, and how many failed
 pub record MemSinkState : Type 0 where
   pub bytes : List ℕ
   pub room : ℕ

@@ -144,7 +144,8 @@ impl Workspace for MemFiles {
 
         // It fails at the calls of `failing` alone, and else misses the file where there is none of the name.
         ensures fault { (result ≡ Err FileError.Fault) ↔ IsSome (failure self.old) }
-        ensures missing { (result ≡ Err FileError.Missing) ↔ (IsNone (failure self.old) × (file_at self.old.files name.now ≡ None)) }
+        ensures missing { (result ≡ Err FileError.Missing) ↔
+            (IsNone (failure self.old) × (file_at self.old.files name.now ≡ None)) }
         ensures failed { OnSome (failure self.old) (self.new ≡ after_failed_read self.old) }
         ensures counted { IfNone (failure self.old) (self.new ≡ after_call self.old) }
     {
@@ -162,13 +163,15 @@ impl Workspace for MemFiles {
     }
 
     fn write(&mut self, alloc: Global, name: &str, bytes: &[u8]) -> Result<(), FileError>
-        ensures stored { Writes (mem_files_told self.old).files (mem_files_told self.new).files name.now bytes.now result }
+        ensures stored { Writes (mem_files_told self.old).files (mem_files_told self.new).files
+            name.now bytes.now result }
         ensures reads { self.new.failed_reads ≡ self.old.failed_reads }
         ensures writes { FaultCause self.old.failed_writes self.new.failed_writes result }
 
         // It fails at the calls of `failing`, and else where there is no memory.
         ensures fault { (result ≡ Err FileError.Fault) ↔ IsSome (failure self.old) }
-        ensures ok { OnOk result (self.new ≡ record (after_call self.old) { files = with_file self.old.files name.now bytes.now }) }
+        ensures ok { OnOk result (self.new ≡
+            record (after_call self.old) { files = with_file self.old.files name.now bytes.now }) }
         ensures failed { IfSome (failure self.old) (λ f. FailsWrite f.keep self.old self.new name.now bytes.now) }
         ensures no_memory { result ≡ Err FileError.NoMemory → self.new ≡ after_call self.old }
     {

@@ -54,8 +54,8 @@ fn read_all<F: Read>(alloc: Global, file: &mut F) -> io::Result<Vec<u8>>
 
 /// The files of the system, which it doesn't tell.
 ///
-/// A file of more than 536,870,912 bytes isn't read: that is a failed read. The counts of failed reads and failed writes
-/// stand still at 2^64 - 1.
+/// A file of more than 536,870,912 bytes isn't read: that is a failed read. The counts of failed reads and failed
+/// writes stand still at 2^64 - 1.
 #[derive(Drop)]
 pub struct RealFiles<'a, R> {
     rt: &'a R,

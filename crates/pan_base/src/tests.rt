@@ -213,6 +213,8 @@ fn real_files(rt: HostRuntime) -> Result<(), Fail> {
         files.read(rt.alloc(), name).err(),
         Some(FileError::Missing)
     );
+
+    // Files of Linux: one has no end, and one takes nothing.
     assert_eq!(rt;
         files.read(rt.alloc(), "/dev/zero").err(),
         Some(FileError::Fault)
