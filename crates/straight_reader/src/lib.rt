@@ -1,6 +1,10 @@
 //! Reads straight-line sources.
 #![tactic(auto)]
 
+mod numerals;
 mod reading;
+mod scanning;
+mod stop;
+mod tokens;
 
 pub use reading::read;
