@@ -2,6 +2,7 @@
 #![tactic(auto)]
 
 mod numerals;
+mod parsing;
 mod reading;
 mod scanning;
 mod stop;
