@@ -1,0 +1,4 @@
+pub mod NumeralLemmas
+pub mod TokenLemmas
+pub mod RowLemmas
+pub mod PartLemmas
