@@ -3,5 +3,6 @@
 
 mod compiling;
 mod constants;
+mod evaluating;
 
 pub use compiling::compile;
