@@ -24,6 +24,9 @@ Pushed old new rd w = (more : List Instr) × (new ≡ old ++ more) × SetsRegist
 most_two : (w : ℕ) → 2 ≤ most w
 most_two w = grind (arith, nat_tests)
 
+pub at_most_eight : (w : ℕ) → most w ≤ 8
+at_most_eight w = grind (arith, nat_tests)
+
 most_more : (w q : ℕ) → magnitude q ≤ magnitude w / 2 ^ 12 + 1 → 2 ^ 20 ≤ (q + 2 ^ 19) % 2 ^ 64 → q < 2 ^ 64 → w < 2 ^ 64 → most q + 2 ≤ most w
 most_more w q smaller big fits_q fits_w = grind (arith, nat_tests)
 

@@ -46,3 +46,10 @@ pub record PerformsFrom (meaning : Does) (code : List Instr) (s : State) : Type 
 pub record Performs (meaning : Does) (code : List Instr) : Type 0 where
   pub in_range : All InRange code
   pub does : (s : State) → IsReady s → PerformsFrom meaning code s
+
+-- the code has grown by at most 32 instructions that do what a statement does
+pub record Grows (meaning : Does) (old new : List Instr) : Type 0 where
+  pub added : List Instr
+  pub grown : new ≡ old ++ added
+  pub short : length added ≤ 32
+  pub performs : Performs meaning added

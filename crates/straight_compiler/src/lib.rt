@@ -4,5 +4,6 @@
 mod compiling;
 mod constants;
 mod evaluating;
+mod generating;
 
 pub use compiling::compile;
