@@ -5,5 +5,7 @@ mod compiling;
 mod constants;
 mod evaluating;
 mod generating;
+mod layout;
+mod words;
 
 pub use compiling::compile;
