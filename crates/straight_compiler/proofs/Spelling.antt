@@ -1,7 +1,8 @@
 -- The bytes of a row of instructions, made one instruction after another.
-use Rattle.std.proofs.Common.{◌≡◌, ℕ, suc, ◌+◌, ◌*◌, ◌<◌, ◌≤◌, refl, sym, ap, ◌∙◌, subst, List, [], ◌∷◌, ◌++◌, append_assoc, length, drop, get_or, arith}
+use Rattle.std.proofs.Common.{◌≡◌, ℕ, zero, suc, ◌+◌, ◌*◌, ◌<◌, ◌≤◌, refl, sym, ap, ◌∙◌, subst, List, [], ◌∷◌, ◌++◌, append_assoc, length, drop, get_or, arith}
 use Rattle.std.specs.Int.{w32, to_le_bytes}
 use Rattle.std.proofs.lemmas.List.{append-nil, length-append, drop_more, drop_all}
+use Rattle.pan_base.specs.Words.{IsBytes}
 use Rattle.riscv_isa.specs.declared.instr.Instr.{Instr}
 use Rattle.riscv_isa.specs.Table.{Instruction}
 use Rattle.straight_compiler.specs.Spells.{Spells}
@@ -25,3 +26,14 @@ spelled_length (i ∷ is) bytes (w, rest, all, stands, more) =
     let e : length bytes ≡ 4 + length rest = ap length all ∙ length-append (to_le_bytes w32 w) rest in
     let h = spelled_length is rest more in
     omega arith
+
+word_bytes : (w : ℕ) (rest : List ℕ) → IsBytes rest → IsBytes (to_le_bytes w32 w ++ rest)
+word_bytes w rest h zero = omega arith
+word_bytes w rest h (suc zero) = omega arith
+word_bytes w rest h (suc (suc zero)) = omega arith
+word_bytes w rest h (suc (suc (suc zero))) = omega arith
+word_bytes w rest h (suc (suc (suc (suc n)))) = h n
+
+pub spelled_bytes : (instrs : List Instr) (bytes : List ℕ) → Spells bytes instrs → IsBytes bytes
+spelled_bytes [] bytes is = subst IsBytes (sym is) (λ i. omega arith)
+spelled_bytes (i ∷ is) bytes (w, rest, all, stands, more) = subst IsBytes (sym all) (word_bytes w rest (spelled_bytes is rest more))
