@@ -35,7 +35,7 @@ continue_on : (c : Config) (f g : State → List Replied → Behaviour) (replies
 continue_on (Runs s) f g replies h = h s replies
 continue_on (Over e) f g replies h = goes_on_refl _
 continue_on (Waits p s) f g [] h = goes_on_refl _
-continue_on (Waits p s) f g (r ∷ replies) h = taken_on (fits (request_of p) r) (request_of p) r _ _ (h (resumed p s r) replies)
+continue_on (Waits p s) f g (r ∷ replies) h = taken_on (fits (request_of p s) r) (request_of p s) r _ _ (h (resumed p s r) replies)
 
 pub more_steps : (k j : ℕ) (s : State) (replies : List Replied) → GoesOn (run k s replies) (run (k + j) s replies)
 unfolding run

@@ -2,7 +2,6 @@
 use Rattle.std.specs.Prelude.{◌≡◌, ℕ, zero, suc, ◌+◌, ◌%◌, ◌≤◌, List, [], ◌∷◌, length, Bool, true, false, replicate, slice_set}
 use Rattle.pan_base.specs.Words.{IsBytes}
 use Rattle.pan_base.specs.Events.{Asked, Replied, Stopped, Asks, Spent, Behaviour, only, before, fits}
-use Rattle.riscv_isa.specs.Regions.{Memory}
 use Rattle.riscv_isa.specs.Step.{State, Config, Runs, Waits, Over, step, request_of, resumed}
 
 -- a reply that fits its request is an event before the rest, and another one ends the run
@@ -14,8 +13,8 @@ taken false q r rest = only (Stopped q)
 abbrev pub continue : Config → (State → List Replied → Behaviour) → List Replied → Behaviour
 continue (Runs s) go replies = go s replies
 continue (Over e) go replies = only e
-continue (Waits p s) go [] = only (Asks (request_of p))
-continue (Waits p s) go (r ∷ replies) = taken (fits (request_of p) r) (request_of p) r (go (resumed p s r) replies)
+continue (Waits p s) go [] = only (Asks (request_of p s))
+continue (Waits p s) go (r ∷ replies) = taken (fits (request_of p s) r) (request_of p s) r (go (resumed p s r) replies)
 
 -- at most so many steps
 unfoldable pub run : ℕ → State → List Replied → Behaviour

@@ -1,6 +1,6 @@
 -- Data memory: its regions, where an access goes, and the numbers that lie there.
 use Rattle.std.specs.Prelude.{ℕ, ◌+◌, ◌-◌, ◌%◌, ◌&&◌, ◌==◌, nat_le, Bool, if◌then◌else◌, List, ◌++◌, length, take, drop}
-use Rattle.std.specs.Int.{Width, w8, w16, w32, w64, to_le_bytes}
+use Rattle.std.specs.Int.{Width, w8, w16, w32, w64, to_le_bytes, from_le_bytes}
 use Rattle.pan_base.specs.declared.events.Size.{Size}
 use Rattle.pan_base.specs.declared.events.Size.TheVariants.{B1, B2, B4, B8}
 use Rattle.pan_base.specs.Events.{byte_count}
@@ -67,3 +67,15 @@ width B8 = w64
 -- the bytes with the number's low bytes at a place, the lowest first
 abbrev pub with_number : Size → List ℕ → ℕ → ℕ → List ℕ
 with_number size bytes at n = take at bytes ++ to_le_bytes (width size) n ++ drop (at + byte_count size) bytes
+
+-- the number of the bytes at a place, the lowest first
+abbrev pub number_at : Size → List ℕ → ℕ → ℕ
+number_at size bytes at = from_le_bytes (width size) (take (byte_count size) (drop at bytes))
+
+-- so many bytes from a place on
+abbrev pub part : List ℕ → ℕ → ℕ → List ℕ
+part bytes at count = take count (drop at bytes)
+
+-- the bytes with others at a place
+abbrev pub with_part : List ℕ → ℕ → List ℕ → List ℕ
+with_part bytes at new = take at bytes ++ new ++ drop (at + length new) bytes

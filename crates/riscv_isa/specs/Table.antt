@@ -11,6 +11,10 @@ use Rattle.pan_base.specs.declared.operators.UOp.{UOp}
 use Rattle.pan_base.specs.declared.operators.UOp.TheVariants.{Lui, Auipc}
 use Rattle.pan_base.specs.declared.operators.SOp.{SOp}
 use Rattle.pan_base.specs.declared.operators.SOp.TheVariants.{Sb, Sh, Sw, Sd}
+use Rattle.pan_base.specs.declared.operators.LOp.{LOp}
+use Rattle.pan_base.specs.declared.operators.LOp.TheVariants.{Lb, Lh, Lw, Ld, Lbu, Lhu, Lwu}
+use Rattle.pan_base.specs.declared.operators.Cmp.{Cmp}
+use Rattle.pan_base.specs.declared.operators.Cmp.TheVariants.{Eq, Ne, Lt, Ge, Ltu, Geu}
 use Rattle.riscv_isa.specs.declared.instr.Instr.{Instr}
 use Rattle.riscv_isa.specs.declared.instr.Instr.TheVariants as instr
 
@@ -68,6 +72,24 @@ s_funct3 Sb = 0b000
 s_funct3 Sh = 0b001
 s_funct3 Sw = 0b010
 s_funct3 Sd = 0b011
+
+abbrev pub l_funct3 : LOp → ℕ
+l_funct3 Lb = 0b000
+l_funct3 Lh = 0b001
+l_funct3 Lw = 0b010
+l_funct3 Ld = 0b011
+l_funct3 Lbu = 0b100
+l_funct3 Lhu = 0b101
+l_funct3 Lwu = 0b110
+
+-- the branches BEQ, BNE, BLT, BGE, BLTU and BGEU
+abbrev pub b_funct3 : Cmp → ℕ
+b_funct3 Eq = 0b000
+b_funct3 Ne = 0b001
+b_funct3 Lt = 0b100
+b_funct3 Ge = 0b101
+b_funct3 Ltu = 0b110
+b_funct3 Geu = 0b111
 
 -- funct7 rs2 rs1 funct3 rd opcode
 pub record RFormat (w : ℕ) (c : Code) (rd rs1 rs2 : ℕ) : Type 0 where
@@ -142,6 +164,30 @@ pub record UFormat (w opcode rd high : ℕ) : Type 0 where
   pub at_rd : field 7 5 w ≡ rd
   pub at_high : field 12 20 w ≡ high
 
+-- imm[12] imm[10:5] rs2 rs1 funct3 imm[4:1] imm[11] opcode
+pub record BFormat (w opcode funct3 rs1 rs2 : ℕ) (imm : ℤ) : Type 0 where
+  pub word : w < 2 ^ 32
+  pub at_opcode : field 0 7 w ≡ opcode
+  pub at_funct3 : field 12 3 w ≡ funct3
+  pub at_rs1 : field 15 5 w ≡ rs1
+  pub at_rs2 : field 20 5 w ≡ rs2
+  pub at_imm : signed 13 (field 31 1 w * 2 ^ 12 + field 7 1 w * 2 ^ 11 + field 25 6 w * 2 ^ 5 + field 8 4 w * 2) ≡ imm
+
+-- imm[20] imm[10:1] imm[11] imm[19:12] rd opcode
+pub record JFormat (w opcode rd : ℕ) (imm : ℤ) : Type 0 where
+  pub word : w < 2 ^ 32
+  pub at_opcode : field 0 7 w ≡ opcode
+  pub at_rd : field 7 5 w ≡ rd
+  pub at_imm : signed 21 (field 31 1 w * 2 ^ 20 + field 12 8 w * 2 ^ 12 + field 20 1 w * 2 ^ 11 + field 21 10 w * 2) ≡ imm
+
+-- the 17 high bits, which have no effect, funct3 rd opcode
+pub record FenceFormat (w opcode funct3 high rd : ℕ) : Type 0 where
+  pub word : w < 2 ^ 32
+  pub at_opcode : field 0 7 w ≡ opcode
+  pub at_rd : field 7 5 w ≡ rd
+  pub at_funct3 : field 12 3 w ≡ funct3
+  pub at_high : field 15 17 w ≡ high
+
 -- the word stands for the instruction
 abbrev pub Instruction : ℕ → Instr → Type 0
 Instruction w (instr.R op rd rs1 rs2) = RFormat w (r_code op) rd rs1 rs2
@@ -149,7 +195,18 @@ Instruction w (instr.I op rd rs1 imm) = IFormat w (i_opcode op) (i_funct3 op) rd
 Instruction w (instr.Sh op rd rs1 amount) = ShRow op w rd rs1 amount
 Instruction w (instr.S op rs1 rs2 imm) = SFormat w 0b0100011 (s_funct3 op) rs1 rs2 imm
 Instruction w (instr.U op rd high) = UFormat w (u_opcode op) rd high
+Instruction w (instr.L op rd rs1 imm) = IFormat w 0b0000011 (l_funct3 op) rd rs1 imm
+Instruction w (instr.B op rs1 rs2 imm) = BFormat w 0b1100011 (b_funct3 op) rs1 rs2 imm
+Instruction w (instr.Jal rd imm) = JFormat w 0b1101111 rd imm
+Instruction w (instr.Jalr rd rs1 imm) = IFormat w 0b1100111 0b000 rd rs1 imm
+Instruction w (instr.Fence high rd) = FenceFormat w 0b0001111 0b000 high rd
 Instruction w instr.Ecall = w ≡ 0x00000073
+Instruction w instr.Ebreak = w ≡ 0x00100073
+
+-- a multiple of 2
+abbrev pub IsEven : ℤ → Type 0
+IsEven (pos n) = n % 2 ≡ 0
+IsEven (negsuc n) = n % 2 ≡ 1
 
 -- the fields of an instruction are in range
 abbrev pub InRange : Instr → Type 0
@@ -158,4 +215,10 @@ InRange (instr.I op rd rs1 imm) = (rd < 32) × (rs1 < 32) × (negsuc 2047 ≤ℤ
 InRange (instr.Sh op rd rs1 amount) = (rd < 32) × (rs1 < 32) × (amount < amounts op)
 InRange (instr.S op rs1 rs2 imm) = (rs1 < 32) × (rs2 < 32) × (negsuc 2047 ≤ℤ imm) × (imm ≤ℤ pos 2047)
 InRange (instr.U op rd high) = (rd < 32) × (high < 2 ^ 20)
+InRange (instr.L op rd rs1 imm) = (rd < 32) × (rs1 < 32) × (negsuc 2047 ≤ℤ imm) × (imm ≤ℤ pos 2047)
+InRange (instr.B op rs1 rs2 imm) = (rs1 < 32) × (rs2 < 32) × (negsuc 4095 ≤ℤ imm) × (imm ≤ℤ pos 4094) × IsEven imm
+InRange (instr.Jal rd imm) = (rd < 32) × (negsuc 1048575 ≤ℤ imm) × (imm ≤ℤ pos 1048574) × IsEven imm
+InRange (instr.Jalr rd rs1 imm) = (rd < 32) × (rs1 < 32) × (negsuc 2047 ≤ℤ imm) × (imm ≤ℤ pos 2047)
+InRange (instr.Fence high rd) = (high < 2 ^ 17) × (rd < 32)
 InRange instr.Ecall = Unit {0}
+InRange instr.Ebreak = Unit {0}

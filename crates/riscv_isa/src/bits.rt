@@ -37,3 +37,67 @@ pub fn unsigned_12(number: i32) -> u32
         number as u32
     }
 }
+
+/// The 13 bits of a number.
+pub fn unsigned_13(number: i32) -> u32
+    requires low { negsuc 4095 ≤ℤ number }
+    requires high { number ≤ℤ pos 4095 }
+    ensures value { signed 13 result ≡ number }
+    ensures bound { result < 2 ^ 13 }
+{
+    if number < 0 {
+        (number + 8192) as u32
+    } else {
+        number as u32
+    }
+}
+
+/// The 21 bits of a number.
+pub fn unsigned_21(number: i32) -> u32
+    requires low { negsuc 1048575 ≤ℤ number }
+    requires high { number ≤ℤ pos 1048575 }
+    ensures value { signed 21 result ≡ number }
+    ensures bound { result < 2 ^ 21 }
+{
+    if number < 0 {
+        (number + 2097152) as u32
+    } else {
+        number as u32
+    }
+}
+
+/// The number that 12 bits stand for in two's complement.
+pub fn signed_12(bits: u32) -> i32
+    requires { bits < 2 ^ 12 }
+    ensures { result ≡ signed 12 bits }
+{
+    if bits < 2048 {
+        bits as i32
+    } else {
+        bits as i32 - 4096
+    }
+}
+
+/// The number that 13 bits stand for in two's complement.
+pub fn signed_13(bits: u32) -> i32
+    requires { bits < 2 ^ 13 }
+    ensures { result ≡ signed 13 bits }
+{
+    if bits < 4096 {
+        bits as i32
+    } else {
+        bits as i32 - 8192
+    }
+}
+
+/// The number that 21 bits stand for in two's complement.
+pub fn signed_21(bits: u32) -> i32
+    requires { bits < 2 ^ 21 }
+    ensures { result ≡ signed 21 bits }
+{
+    if bits < 1048576 {
+        bits as i32
+    } else {
+        bits as i32 - 2097152
+    }
+}

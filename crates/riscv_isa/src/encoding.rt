@@ -1,23 +1,14 @@
 //! From instructions to words, by the formats of the RISC-V unprivileged ISA.
 
 ghost use Rattle.std.specs.Prelude.{◌≡◌, IfSome, Some, ℕ, pos, negsuc, ◌+◌, ◌*◌, ◌^◌, ◌<◌, ◌≤ℤ◌};
-ghost use Rattle.riscv_isa.specs.Table.{r_code, i_opcode, i_funct3, s_funct3, u_opcode, amounts, Instruction, InRange, RFormat, IFormat, SFormat, UFormat, ShFormat, ShwFormat, ShRow};
+ghost use Rattle.riscv_isa.specs.Table.{r_code, i_opcode, i_funct3, l_funct3, s_funct3, b_funct3, u_opcode, amounts, Instruction, InRange, IsEven, RFormat, IFormat, SFormat, BFormat, UFormat, JFormat, ShFormat, ShwFormat, FenceFormat, ShRow};
 
-use crate::bits::{bits_of, join, unsigned_12};
+use crate::bits::{bits_of, join, unsigned_12, unsigned_13, unsigned_21};
+use crate::codes::{
+    b_funct3_of, i_funct3_of, i_opcode_of, l_funct3_of, r_code_of, s_funct3_of, u_opcode_of,
+};
 use crate::instr::Instr;
-use pan_base::{IOp, ROp, SOp, ShiftOp, UOp};
-
-fn s_funct3_of(op: SOp) -> u32
-    ensures value { result ≡ s_funct3 op }
-    ensures bound { result < 8 }
-{
-    match op {
-        SOp::Sb => 0b000,
-        SOp::Sh => 0b001,
-        SOp::Sw => 0b010,
-        SOp::Sd => 0b011,
-    }
-}
+use pan_base::{Cmp, IOp, LOp, ROp, SOp, ShiftOp, UOp};
 
 /// The word with these fields, the first one at the top.
 fn word_of(funct7: u32, rs2: u32, rs1: u32, funct3: u32, rd: u32, opcode: u32) -> u32
@@ -49,57 +40,6 @@ fn write_s(op: SOp, rs1: u8, rs2: u8, imm: i32) -> u32
     )
 }
 
-fn i_opcode_of(op: IOp) -> u32
-    ensures value { result ≡ i_opcode op }
-    ensures bound { result < 128 }
-{
-    match op {
-        IOp::Addiw => 0b0011011,
-        _ => 0b0010011,
-    }
-}
-
-fn i_funct3_of(op: IOp) -> u32
-    ensures value { result ≡ i_funct3 op }
-    ensures bound { result < 8 }
-{
-    match op {
-        IOp::Addi => 0b000,
-        IOp::Slti => 0b010,
-        IOp::Sltiu => 0b011,
-        IOp::Xori => 0b100,
-        IOp::Ori => 0b110,
-        IOp::Andi => 0b111,
-        IOp::Addiw => 0b000,
-    }
-}
-
-/// The opcode, funct3 and funct7.
-fn r_code_of(op: ROp) -> (u32, u32, u32)
-    ensures value { (result.0 ≡ (r_code op).opcode) × (result.1 ≡ (r_code op).funct3) × (result.2 ≡ (r_code op).funct7) }
-    ensures bound { (result.0 < 128) × (result.1 < 8) × (result.2 < 128) }
-{
-    match op {
-        ROp::Add => (0b0110011, 0b000, 0b0000000),
-        ROp::Sub => (0b0110011, 0b000, 0b0100000),
-        ROp::Sll => (0b0110011, 0b001, 0b0000000),
-        ROp::Slt => (0b0110011, 0b010, 0b0000000),
-        ROp::Sltu => (0b0110011, 0b011, 0b0000000),
-        ROp::Xor => (0b0110011, 0b100, 0b0000000),
-        ROp::Srl => (0b0110011, 0b101, 0b0000000),
-        ROp::Sra => (0b0110011, 0b101, 0b0100000),
-        ROp::Or => (0b0110011, 0b110, 0b0000000),
-        ROp::And => (0b0110011, 0b111, 0b0000000),
-        ROp::Mul => (0b0110011, 0b000, 0b0000001),
-        ROp::Mulhu => (0b0110011, 0b011, 0b0000001),
-        ROp::Addw => (0b0111011, 0b000, 0b0000000),
-        ROp::Subw => (0b0111011, 0b000, 0b0100000),
-        ROp::Sllw => (0b0111011, 0b001, 0b0000000),
-        ROp::Srlw => (0b0111011, 0b101, 0b0000000),
-        ROp::Sraw => (0b0111011, 0b101, 0b0100000),
-    }
-}
-
 fn write_r(op: ROp, rd: u8, rs1: u8, rs2: u8) -> u32
     requires { InRange (Instr.R op rd rs1 rs2) }
     ensures fits { RFormat result (r_code op) rd rs1 rs2 }
@@ -109,19 +49,22 @@ fn write_r(op: ROp, rd: u8, rs1: u8, rs2: u8) -> u32
     word_of(funct7, rs2 as u32, rs1 as u32, funct3, rd as u32, opcode)
 }
 
-fn write_i(op: IOp, rd: u8, rs1: u8, imm: i32) -> u32
-    requires { InRange (Instr.I op rd rs1 imm) }
-    ensures fits { IFormat result (i_opcode op) (i_funct3 op) rd rs1 imm }
-    ensures only { (w : ℕ) → IFormat w (i_opcode op) (i_funct3 op) rd rs1 imm → w ≡ result }
+/// A word of the format I.
+fn write_i(opcode: u32, funct3: u32, rd: u8, rs1: u8, imm: i32) -> u32
+    requires opcode { opcode < 128 }
+    requires funct3 { funct3 < 8 }
+    requires rd { rd < 32 }
+    requires rs1 { rs1 < 32 }
+    requires low { negsuc 2047 ≤ℤ imm }
+    requires high { imm ≤ℤ pos 2047 }
+    ensures fits { IFormat result opcode funct3 rd rs1 imm }
+    ensures only { (w : ℕ) → IFormat w opcode funct3 rd rs1 imm → w ≡ result }
 {
     let bits = unsigned_12(imm);
-    word_of(
-        bits_of(bits, 5, 7),
-        bits_of(bits, 0, 5),
-        rs1 as u32,
-        i_funct3_of(op),
-        rd as u32,
-        i_opcode_of(op),
+    join(
+        bits,
+        20,
+        join(rs1 as u32, 15, join(funct3, 12, join(rd as u32, 7, opcode))),
     )
 }
 
@@ -167,22 +110,51 @@ fn write_shift(op: ShiftOp, rd: u8, rs1: u8, amount: u8) -> u32
     }
 }
 
-fn u_opcode_of(op: UOp) -> u32
-    ensures value { result ≡ u_opcode op }
-    ensures bound { result < 128 }
-{
-    match op {
-        UOp::Lui => 0b0110111,
-        UOp::Auipc => 0b0010111,
-    }
-}
-
 fn write_u(op: UOp, rd: u8, high: u32) -> u32
     requires { InRange (Instr.U op rd high) }
     ensures fits { UFormat result (u_opcode op) rd high }
     ensures only { (w : ℕ) → UFormat w (u_opcode op) rd high → w ≡ result }
 {
     join(high, 12, join(rd as u32, 7, u_opcode_of(op)))
+}
+
+fn write_b(op: Cmp, rs1: u8, rs2: u8, imm: i32) -> u32
+    requires { InRange (Instr.B op rs1 rs2 imm) }
+    ensures fits { BFormat result 0b1100011 (b_funct3 op) rs1 rs2 imm }
+    ensures only { (w : ℕ) → BFormat w 0b1100011 (b_funct3 op) rs1 rs2 imm → w ≡ result }
+{
+    let bits = unsigned_13(imm);
+    word_of(
+        join(bits_of(bits, 12, 1), 6, bits_of(bits, 5, 6)),
+        rs2 as u32,
+        rs1 as u32,
+        b_funct3_of(op),
+        join(bits_of(bits, 1, 4), 1, bits_of(bits, 11, 1)),
+        0b1100011,
+    )
+}
+
+fn write_jal(rd: u8, imm: i32) -> u32
+    requires { InRange (Instr.Jal rd imm) }
+    ensures fits { JFormat result 0b1101111 rd imm }
+    ensures only { (w : ℕ) → JFormat w 0b1101111 rd imm → w ≡ result }
+{
+    let bits = unsigned_21(imm);
+    let low = join(bits_of(bits, 12, 8), 12, join(rd as u32, 7, 0b1101111));
+    let middle = join(
+        bits_of(bits, 1, 10),
+        21,
+        join(bits_of(bits, 11, 1), 20, low),
+    );
+    join(bits_of(bits, 20, 1), 31, middle)
+}
+
+fn write_fence(high: u32, rd: u8) -> u32
+    requires { InRange (Instr.Fence high rd) }
+    ensures fits { FenceFormat result 0b0001111 0b000 high rd }
+    ensures only { (w : ℕ) → FenceFormat w 0b0001111 0b000 high rd → w ≡ result }
+{
+    join(high, 15, join(rd as u32, 7, 0b0001111))
 }
 
 /// The word that stands for the instruction, and the only one.
@@ -193,8 +165,11 @@ pub fn encode(instr: Instr) -> u32
 {
     match instr {
         Instr::R { op, rd, rs1, rs2 } => write_r(op, rd, rs1, rs2),
-        Instr::I { op, rd, rs1, imm } => write_i(op, rd, rs1, imm),
+        Instr::I { op, rd, rs1, imm } => { write_i(i_opcode_of(op), i_funct3_of(op), rd, rs1, imm) }
+        Instr::L { op, rd, rs1, imm } => write_i(0b0000011, l_funct3_of(op), rd, rs1, imm),
+        Instr::Jalr { rd, rs1, imm } => write_i(0b1100111, 0b000, rd, rs1, imm),
         Instr::S { op, rs1, rs2, imm } => write_s(op, rs1, rs2, imm),
+        Instr::B { op, rs1, rs2, imm } => write_b(op, rs1, rs2, imm),
         Instr::Sh {
             op,
             rd,
@@ -202,7 +177,9 @@ pub fn encode(instr: Instr) -> u32
             amount,
         } => write_shift(op, rd, rs1, amount),
         Instr::U { op, rd, high } => write_u(op, rd, high),
+        Instr::Jal { rd, imm } => write_jal(rd, imm),
+        Instr::Fence { high, rd } => write_fence(high, rd),
         Instr::Ecall => 0x0000_0073,
+        Instr::Ebreak => 0x0010_0073,
     }
 }
-

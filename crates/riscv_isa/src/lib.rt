@@ -1,13 +1,22 @@
 //! The machine's instructions, what they do, and the form of an image (`specs/`), with the encoder.
 #![tactic(auto)]
 
+#[cfg(test)]
+mod assembled_words;
 mod bits;
+mod codes;
+mod decoding;
 mod encoding;
 mod instr;
+#[cfg(test)]
+mod known_words;
+mod laws;
 mod pending;
 mod place;
 
+pub use decoding::decode;
 pub use encoding::encode;
 pub use instr::Instr;
-pub use pending::Pending;
+pub use laws::{decoded_is_the_table, read_written, write_read};
+pub use pending::{Buffer, Pending};
 pub use place::{Place, Region};

@@ -1,4 +1,4 @@
-use Rattle.std.proofs.Common.{rules, ◌≡◌, ℕ, ◌*◌, ◌^◌, ◌%◌, ◌<◌, arith, refl}
+use Rattle.std.proofs.Common.{◌≡◌, ◌*◌, ◌^◌, ◌%◌, arith, refl}
 use Rattle.std.proofs.lemmas.Nat.{one_shl, and_mask, pow_pos}
 use Rattle.riscv_isa.proofs.bits.bits_of.Goals as goal
 

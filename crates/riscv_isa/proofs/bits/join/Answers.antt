@@ -1,4 +1,4 @@
-use Rattle.std.proofs.Common.{rules, ◌≡◌, ℕ, ◌*◌, ◌^◌, ◌%◌, ◌<◌, arith}
+use Rattle.std.proofs.Common.{◌≡◌, ◌*◌, ◌^◌, ◌%◌, arith}
 use Rattle.std.proofs.lemmas.Nat.{or_shifted}
 use Rattle.riscv_isa.proofs.bits.join.Goals as goal
 

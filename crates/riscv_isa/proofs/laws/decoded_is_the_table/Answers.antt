@@ -1,0 +1,5 @@
+use Rattle.riscv_isa.proofs.DecodedLaws.{reads, fits}
+use Rattle.riscv_isa.proofs.laws.decoded_is_the_table.Goals as goal
+
+pub returns : goal.returns
+returns c = record { reads = reads; fits = fits }
