@@ -9,9 +9,8 @@ use Rattle.pan_base.specs.declared.operators.ShiftOp.TheVariants as shift_op
 use Rattle.pan_base.specs.declared.operators.UOp.TheVariants as uop
 use Rattle.riscv_isa.specs.declared.instr.Instr.{Instr}
 use Rattle.riscv_isa.specs.declared.instr.Instr.TheVariants as instr
-use Rattle.riscv_isa.specs.Table.{InRange}
 use Rattle.riscv_isa.specs.Step.{State, plus, upper}
-use Rattle.straight_compiler.specs.Follow.{Leads, magnitude, most, SetsRegister}
+use Rattle.straight_compiler.specs.Follow.{IsInline, Leads, magnitude, most, SetsRegister}
 use Rattle.straight_compiler.proofs.Setting.{from_zero, from_upper, added, shifted}
 
 abbrev addi : ℕ → ℕ → ℤ → Instr
@@ -40,7 +39,7 @@ module _ (rd : ℕ) (is_real : 0 < rd) (is_register : rd < 32) (w q : ℕ) (imm 
   pushed_small old new zero at =
       let same : plus 0 imm ≡ w = ap (λ n. plus (n * 2 ^ 12 % 2 ^ 64) imm) (sym zero) ∙ sum in
       (addi rd 0 imm ∷ [], at, record {
-        in_range = All-cons InRange (addi rd 0 imm) [] (is_register, omega arith, low, high) (All-nil InRange);
+        row = All-cons IsInline (addi rd 0 imm) [] (is_register, omega arith, low, high) (All-nil IsInline);
         short = let m = most_two w in omega arith;
         leads = λ s all. subst (Leads (addi rd 0 imm ∷ []) s rd) same (from_zero rd is_real is_register s imm);
       })
@@ -50,7 +49,7 @@ module _ (rd : ℕ) (is_real : 0 < rd) (is_register : rd < 32) (w q : ℕ) (imm 
       let lui = instr.U uop.Lui rd (q % 2 ^ 20) in
       let same : plus (upper (q % 2 ^ 20)) imm ≡ w = ap (λ n. plus n imm) (upper_is q small fits) ∙ sum in
       ((lui ∷ []) ++ addi rd rd imm ∷ [], at₂ ∙ ap (λ c. c ++ addi rd rd imm ∷ []) at₁ ∙ append_assoc old _ _, record {
-        in_range = All-cons InRange lui (addi rd rd imm ∷ []) (is_register, omega arith) (All-cons InRange (addi rd rd imm) [] (is_register, is_register, low, high) (All-nil InRange));
+        row = All-cons IsInline lui (addi rd rd imm ∷ []) (is_register, omega arith) (All-cons IsInline (addi rd rd imm) [] (is_register, is_register, low, high) (All-nil IsInline));
         short = most_two w;
         leads = λ s all. subst (Leads (lui ∷ addi rd rd imm ∷ []) s rd) same (added rd is_real is_register (lui ∷ []) s (upper (q % 2 ^ 20)) imm all (from_upper rd is_real is_register s (q % 2 ^ 20)));
       })
@@ -61,7 +60,7 @@ module _ (rd : ℕ) (is_real : 0 < rd) (is_register : rd < 32) (w q : ℕ) (imm 
       ((code ++ slli ∷ []) ++ addi rd rd imm ∷ [],
       at₂ ∙ ap (λ c. c ++ addi rd rd imm ∷ []) (at₁ ∙ ap (λ c. c ++ slli ∷ []) at ∙ append_assoc old _ _) ∙ append_assoc old _ _,
       record {
-        in_range = All-push InRange _ (addi rd rd imm) (All-push InRange code slli sets.in_range (is_register, is_register, omega arith)) (is_register, is_register, low, high);
+        row = All-push IsInline _ (addi rd rd imm) (All-push IsInline code slli sets.row (is_register, is_register, omega arith)) (is_register, is_register, low, high);
         short = let m = most_more w q smaller big small_q small_w in let h = sets.short in simp length-append (omega arith);
         leads = λ s all. subst (Leads ((code ++ slli ∷ []) ++ addi rd rd imm ∷ []) s rd) sum (added rd is_real is_register (code ++ slli ∷ []) s _ imm all (shifted rd is_real is_register code s q 12 all (sets.leads s all)));
       })

@@ -14,11 +14,10 @@ use Rattle.pan_tree.specs.Value.{Value, Scopes}
 use Rattle.pan_tree.specs.Meaning.{as_word, value, word, run_kind, exit_of}
 use Rattle.riscv_isa.specs.declared.instr.Instr.{Instr}
 use Rattle.riscv_isa.specs.declared.instr.Instr.TheVariants as instr
-use Rattle.riscv_isa.specs.Table.{InRange}
 use Rattle.riscv_isa.specs.Step.{State, Config, reg, act}
 use Rattle.riscv_isa.specs.Step as step
 use Rattle.riscv_isa.specs.Machine.{continue}
-use Rattle.straight_compiler.specs.Follow.{follow, Leads, SetsRegister}
+use Rattle.straight_compiler.specs.Follow.{IsInline, follow, Leads, SetsRegister}
 use Rattle.straight_compiler.specs.Performs.{shown, shown_after, IsReady, PerformsFrom, Performs, Grows}
 use Rattle.straight_compiler.proofs.Setting.{follow_append}
 use Rattle.straight_compiler.proofs.Pushing.{Pushed, at_most_eight}
@@ -54,7 +53,7 @@ returned_same (Some a) x w go is = ended_same w.trace _ (append-nil w.trace) _ _
 return_performs : (e : Spanned ExprKind) (x : ℕ) (first second third : List Instr) → ((v : Scopes) (m : List ℕ) → word e v m ≡ Some x)
     → SetsRegister 11 x first → SetsRegister 10 0 second → SetsRegister 17 0 third → Performs (run_kind (stmt.Return e)) (((first ++ second) ++ third) ++ instr.Ecall ∷ [])
 return_performs e x first second third gives f g h = record {
-  in_range = All-push InRange _ instr.Ecall (All-append InRange (first ++ second) third (All-append InRange first second f.in_range g.in_range) h.in_range) tt;
+  row = All-push IsInline _ instr.Ecall (All-append IsInline (first ++ second) third (All-append IsInline first second f.row g.row) h.row) tt;
   does = λ s ready.
       let l = f.leads s ready.registers in
       let many : length (l.state).registers ≡ 32 = ap length l.registers ∙ length-set s.registers 11 x ∙ ready.registers in

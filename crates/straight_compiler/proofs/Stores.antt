@@ -7,6 +7,7 @@ use Rattle.std.proofs.lemmas.List.Elements.{All-append, All-push}
 use Rattle.std.proofs.lemmas.Bool.{leb-true, lt-leb, eqb-true, and_parts, and_from, and_right}
 use Rattle.std.proofs.lemmas.Bool.Decides.{nat_tests}
 use Rattle.std.proofs.lemmas.Int.{ints}
+use Rattle.pan_base.specs.declared.events.Size.{Size}
 use Rattle.pan_base.specs.declared.events.Size.TheVariants as size
 use Rattle.pan_base.specs.declared.operators.SOp.TheVariants as sop
 use Rattle.pan_base.specs.Events.{Asked, Store, Replied, Event, Behaviour, Ending, Asks, Stopped, Fails, fits, only, before, byte_count}
@@ -22,13 +23,11 @@ use Rattle.riscv_isa.specs.declared.instr.Instr.TheVariants as instr
 use Rattle.riscv_isa.specs.declared.place.Region.{Region}
 use Rattle.riscv_isa.specs.declared.place.Region.TheVariants as region
 use Rattle.riscv_isa.specs.declared.place.Place.TheVariants as place
-use Rattle.riscv_isa.specs.declared.pending.Pending.{Pending}
 use Rattle.riscv_isa.specs.declared.pending.Pending.TheVariants as pending
-use Rattle.riscv_isa.specs.Table.{InRange}
 use Rattle.riscv_isa.specs.Regions.{Memory, begin, bytes_of, is_within, is_in, place_of}
 use Rattle.riscv_isa.specs.Step.{State, Config, Runs, Waits, reg, plus, next, act, store, request_of}
 use Rattle.riscv_isa.specs.Machine.{continue, taken}
-use Rattle.straight_compiler.specs.Follow.{follow, Leads, SetsRegister}
+use Rattle.straight_compiler.specs.Follow.{IsInline, follow, Leads, SetsRegister}
 use Rattle.straight_compiler.specs.Performs.{shown, shown_after, IsReady, PerformsFrom, Performs, Grows}
 use Rattle.straight_compiler.proofs.Setting.{follow_append}
 use Rattle.straight_compiler.proofs.Pushing.{Pushed, at_most_eight}
@@ -40,10 +39,10 @@ answered : (f : Bool) (q : Asked) (r : Replied) (rs : List Replied) (w : World) 
 answered true q r rs w v go = ap (λ (events : List Event). (let b : Behaviour = record { events = events; ending = (go rs).ending } in b)) (sym (append_assoc w.trace _ _))
 answered false q r rs w v go = ap (λ (events : List Event). (let b : Behaviour = record { events = events; ending = Stopped q } in b)) (append-nil w.trace)
 
-asked_same : (p : Pending) (t : State) (rs : List Replied) (w : World) (v : Scopes) (go : State → List Replied → Behaviour)
-    → shown w (continue (Waits p t) go rs) ≡ shown_after (ask_of {V = Scopes} {X = Value} rs (request_of p) w (λ r w. Normal v w)) (go t)
-asked_same p t [] w v go = ap (λ (events : List Event). (let b : Behaviour = record { events = events; ending = Asks (request_of p) } in b)) (append-nil w.trace)
-asked_same (pending.Store size addr value) t (r ∷ rs) w v go = answered (fits (Store size addr value) r) (Store size addr value) r rs w v (go t)
+asked_same : (size : Size) (addr value : ℕ) (t : State) (rs : List Replied) (w : World) (v : Scopes) (go : State → List Replied → Behaviour)
+    → shown w (continue (Waits (pending.Store size addr value) t) go rs) ≡ shown_after (ask_of {V = Scopes} {X = Value} rs (Store size addr value) w (λ r w. Normal v w)) (go t)
+asked_same size addr value t [] w v go = ap (λ (events : List Event). (let b : Behaviour = record { events = events; ending = Asks (Store size addr value) } in b)) (append-nil w.trace)
+asked_same size addr value t (r ∷ rs) w v go = answered (fits (Store size addr value) r) (Store size addr value) r rs w v (go t)
 
 -- ---- the place
 
@@ -102,7 +101,7 @@ stored_same : (b : Bool) (x y : ℕ) (t : State) (v : Scopes) (w : World) (go : 
     → (shown_after (where_true {V = Scopes} {X = Value} b w (ask (Store size.B8 x (y % 2 ^ 64)) w (λ r w. Normal v w))) (go (next t))).ending ≢ Fails
     → shown w (continue (act sd t) go w.replies) ≡ shown_after (where_true {V = Scopes} {X = Value} b w (ask (Store size.B8 x (y % 2 ^ 64)) w (λ r w. Normal v w))) (go (next t))
 stored_same false x y t v w go is does ok = absurd (ok refl)
-stored_same true x y t v w go is does ok = ap (λ (c : Config). shown w (continue c go w.replies)) (does refl) ∙ asked_same (pending.Store size.B8 x (y % 2 ^ 64)) (next t) w.replies w v go
+stored_same true x y t v w go is does ok = ap (λ (c : Config). shown w (continue c go w.replies)) (does refl) ∙ asked_same size.B8 x (y % 2 ^ 64) (next t) w.replies w v go
 
 -- the registers and memory after the two constants
 after_constants : (first second : List Instr) (s : State) (x y : ℕ) (l : Leads first s 5 x) (m : Leads second l.state 6 y) → length s.registers ≡ 32 → Holds m.state x y
@@ -119,7 +118,7 @@ store_performs : (a e : Spanned ExprKind) (x y : ℕ) (first second : List Instr
     → x < 2 ^ 64 → SetsRegister 5 x first → SetsRegister 6 y second → Performs (run_kind (stmt.SharedStore size.B8 a e)) ((first ++ second) ++ sd ∷ [])
 unfolding sd
 store_performs a e x y first second gives_a gives_e small f g = record {
-  in_range = All-push InRange (first ++ second) sd (All-append InRange first second f.in_range g.in_range) (omega arith, omega arith, omega (arith, ints), omega (arith, ints));
+  row = All-push IsInline (first ++ second) sd (All-append IsInline first second f.row g.row) (omega arith, omega arith, omega (arith, ints), omega (arith, ints));
   does = λ s ready.
       let l = f.leads s ready.registers in
       let many : length (l.state).registers ≡ 32 = ap length l.registers ∙ length-set s.registers 5 x ∙ ready.registers in

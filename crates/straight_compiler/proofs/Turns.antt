@@ -11,9 +11,8 @@ use Rattle.pan_tree.specs.declared.syntax.StmtKind.{StmtKind}
 use Rattle.pan_tree.specs.Value.{Value, Scopes}
 use Rattle.pan_tree.specs.Meaning.{Does, run_kind}
 use Rattle.riscv_isa.specs.declared.instr.Instr.{Instr}
-use Rattle.riscv_isa.specs.Table.{InRange}
 use Rattle.riscv_isa.specs.Step.{State}
-use Rattle.straight_compiler.specs.Follow.{follow}
+use Rattle.straight_compiler.specs.Follow.{IsInline, follow}
 use Rattle.straight_compiler.specs.Performs.{shown, shown_after, IsReady, PerformsFrom, Performs, Grows}
 use Rattle.straight_compiler.proofs.Setting.{follow_append}
 
@@ -22,7 +21,7 @@ Stmt = Spanned StmtKind
 
 pub performs_nothing : Performs (in_turn []) []
 performs_nothing = record {
-  in_range = All-nil InRange;
+  row = All-nil IsInline;
   does = λ s ready. record { state = s; ready = ready; same = λ go v w ok. refl };
 }
 
@@ -39,7 +38,7 @@ then_same (Over e w) m f g ok same = refl
 
 pub performs_then : (m : Does) (ms : List Does) (code more : List Instr) → Performs m code → Performs (in_turn ms) more → Performs (in_turn (m ∷ ms)) (code ++ more)
 performs_then m ms code more p q = record {
-  in_range = All-append InRange code more p.in_range q.in_range;
+  row = All-append IsInline code more p.row q.row;
   does = λ s ready.
       let a = p.does s ready in
       let b = q.does a.state a.ready in
