@@ -3,6 +3,7 @@ use Rattle.std.specs.Prelude.{◌≡◌, ℕ, ◌<◌, ◌≤◌, nat_lt, ◌-�
 use Rattle.std.specs.List.{All}
 use Rattle.pan_base.specs.Events.{Replied, Behaviour}
 use Rattle.riscv_isa.specs.declared.instr.Instr.{Instr}
+use Rattle.riscv_isa.specs.declared.instr.Instr.TheVariants as instr
 use Rattle.riscv_isa.specs.Table.{InRange}
 use Rattle.riscv_isa.specs.Step.{State, act}
 use Rattle.riscv_isa.specs.Machine.{continue}
@@ -11,6 +12,13 @@ use Rattle.riscv_isa.specs.Machine.{continue}
 abbrev pub follow : List Instr → (State → List Replied → Behaviour) → State → List Replied → Behaviour
 follow [] go = go
 follow (i ∷ is) go = λ s replies. continue (act i s) (follow is go) replies
+
+-- an instruction in range after which the next one follows: no branch and no jump
+abbrev pub IsInline : Instr → Type 0
+IsInline (instr.B op rs1 rs2 imm) = ⊥
+IsInline (instr.Jal rd imm) = ⊥
+IsInline (instr.Jalr rd rs1 imm) = ⊥
+IsInline i = InRange i
 
 -- from this state the instructions lead on silently to one where the register has the value, and the others and memory are as before
 pub record Leads (code : List Instr) (s : State) (rd value : ℕ) : Type 0 where
@@ -33,6 +41,6 @@ most n =
 
 -- from each state with 32 registers the instructions set the register to the word
 pub record SetsRegister (rd value : ℕ) (code : List Instr) : Type 0 where
-  pub in_range : All InRange code
+  pub row : All IsInline code
   pub short : length code ≤ most value
   pub leads : (s : State) → length s.registers ≡ 32 → Leads code s rd value

@@ -11,10 +11,9 @@ use Rattle.pan_tree.specs.declared.syntax.StmtKind.{StmtKind}
 use Rattle.pan_tree.specs.declared.syntax.StmtKind.TheVariants as stmt
 use Rattle.riscv_isa.specs.declared.instr.Instr.{Instr}
 use Rattle.riscv_isa.specs.declared.place.Region.{Region}
-use Rattle.riscv_isa.specs.Table.{InRange}
 use Rattle.riscv_isa.specs.Regions.{begin, bytes_of}
 use Rattle.riscv_isa.specs.Step.{State}
-use Rattle.straight_compiler.specs.Follow.{follow}
+use Rattle.straight_compiler.specs.Follow.{IsInline, follow}
 
 -- a statement of the straight-line form: its stores are of 64 bits
 abbrev pub IsPlain : StmtKind → Type 0
@@ -44,5 +43,12 @@ pub record PerformsFrom (meaning : Does) (code : List Instr) (s : State) : Type 
 
 -- the instructions do what the statements do
 pub record Performs (meaning : Does) (code : List Instr) : Type 0 where
-  pub in_range : All InRange code
+  pub row : All IsInline code
   pub does : (s : State) → IsReady s → PerformsFrom meaning code s
+
+-- the code has grown by at most 32 instructions that do what a statement does
+pub record Grows (meaning : Does) (old new : List Instr) : Type 0 where
+  pub added : List Instr
+  pub grown : new ≡ old ++ added
+  pub short : length added ≤ 32
+  pub performs : Performs meaning added

@@ -5,6 +5,9 @@ ghost use Rattle.pan_tree.specs.Weight.{weight};
 ghost use Rattle.pan_agree.specs.Faithful.{Faithful};
 ghost use Rattle.straight_form.specs.Form.{IsStraight};
 
+use crate::generating::generate;
+use crate::layout::image_of;
+use crate::words::spell;
 use pan_base::{Blob, NoMemory};
 use pan_tree::Program;
 use std::alloc::Global;
@@ -15,7 +18,9 @@ pub fn compile(alloc: Global, program: &Program) -> Result<Blob, NoMemory>
     requires light { weight program.now ≤ 16384 }
     ensures { IfOk result (λ image. Faithful program.now image None) }
 {
-    let _ = alloc;
-    let _ = program;
-    Err(NoMemory)
+    let main = &program.functions.as_slice()[0];
+    let instrs = generate(alloc, main.body.stmts.as_slice())?;
+    let code = spell(alloc, instrs.as_slice())?;
+    let image = image_of(alloc, code.as_slice())?;
+    Ok(image)
 }

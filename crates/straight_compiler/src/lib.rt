@@ -3,5 +3,9 @@
 
 mod compiling;
 mod constants;
+mod evaluating;
+mod generating;
+mod layout;
+mod words;
 
 pub use compiling::compile;

@@ -1,0 +1,12 @@
+use Rattle.std.proofs.Common.{arith}
+use Rattle.straight_compiler.proofs.Turns.{grown_length, completes_more, completes_all}
+use Rattle.straight_compiler.proofs.generating.generate.Goals as goal
+
+pub loop-stmt-preserved : goal.loop-stmt-preserved
+loop-stmt-preserved c = record {
+  completes = completes_more c.args.stmts.now c.loop-stmt.stmt-index c.stmt-item.result c.loop-stmt.code c.push_stmt.new.code (omega arith) c.stmt-item.is c.loop-stmt.invariant.completes c.in_ok-push_stmt.ensures;
+  short = omega (arith, grown_length c.in_ok-push_stmt.ensures);
+}
+
+pub returns-clause-performs : goal.returns-clause-performs
+returns-clause-performs c = completes_all c.args.stmts.now c.loop-stmt.stmt-index c.loop-stmt.code (omega arith) c.loop-stmt.invariant.completes

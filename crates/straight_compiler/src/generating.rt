@@ -1,0 +1,74 @@
+//! The instructions of statements.
+
+ghost use Rattle.std.specs.Prelude.{◌≡◌, ℕ, List, ◌*◌, ◌≤◌, length, map, OnOk, IfOk};
+ghost use Rattle.std.specs.List.{All};
+ghost use Rattle.pan_base.specs.declared.events.Size.TheVariants.{B8};
+ghost use Rattle.pan_control.specs.Control.{in_turn};
+ghost use Rattle.pan_tree.specs.Meaning.{run_kind};
+ghost use Rattle.straight_compiler.specs.Performs.{IsPlain, Performs, Grows};
+
+use crate::constants::push_constant;
+use crate::evaluating::evaluate;
+use pan_base::{List, NoMemory, SOp};
+use pan_tree::{Expr, Stmt, StmtKind};
+use riscv_isa::Instr;
+use std::alloc::Global;
+
+/// The registers of a store's address and value, t0 and t1.
+const ADDRESS: u8 = 5;
+const VALUE: u8 = 6;
+
+/// The registers of a call of the environment, a0, a1 and a7: the kind of end, the value that is returned, and the call.
+const END: u8 = 10;
+const RETURNED: u8 = 11;
+const CALL: u8 = 17;
+
+/// Puts at the end of the code the instructions that store the 64 bits of a value to the shared window.
+fn push_store(code: &mut List<Instr>, address: &Expr, value: &Expr) -> Result<(), NoMemory>
+    ensures { OnOk result (Grows (run_kind (StmtKind.SharedStore B8 address.now value.now)) code.old code.new) }
+{
+    push_constant(code, ADDRESS, evaluate(address))?;
+    push_constant(code, VALUE, evaluate(value))?;
+    code.push(Instr::S {
+        op: SOp::Sd,
+        rs1: ADDRESS,
+        rs2: VALUE,
+        imm: 0,
+    })?;
+    Ok(())
+}
+
+/// Puts at the end of the code the instructions that end the program with a value.
+fn push_return(code: &mut List<Instr>, value: &Expr) -> Result<(), NoMemory>
+    ensures { OnOk result (Grows (run_kind (StmtKind.Return value.now)) code.old code.new) }
+{
+    push_constant(code, RETURNED, evaluate(value))?;
+    push_constant(code, END, 0)?;
+    push_constant(code, CALL, 0)?;
+    code.push(Instr::Ecall)?;
+    Ok(())
+}
+
+/// Puts the instructions of a statement at the end of the code.
+fn push_stmt(code: &mut List<Instr>, stmt: &Stmt) -> Result<(), NoMemory>
+    requires { IsPlain stmt.now.kind }
+    ensures { OnOk result (Grows (run_kind stmt.now.kind) code.old code.new) }
+{
+    match &stmt.kind {
+        StmtKind::Return(value) => push_return(code, value),
+        StmtKind::SharedStore(_, address, value) => push_store(code, address, value),
+    }
+}
+
+/// The instructions of statements, one after another.
+pub fn generate(alloc: Global, stmts: &[Stmt]) -> Result<List<Instr>, NoMemory>
+    requires { All (λ s. IsPlain s.kind) stmts.now }
+    ensures performs { IfOk result (λ code. Performs (in_turn (map (λ s. run_kind s.kind) stmts.now)) code) }
+    ensures short { IfOk result (λ code. length code ≤ 32 * length stmts.now) }
+{
+    let mut code = List::new(alloc);
+    for stmt in stmts {
+        push_stmt(&mut code, stmt)?;
+    }
+    Ok(code)
+}
