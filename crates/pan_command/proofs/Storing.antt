@@ -56,7 +56,7 @@ module _ (before mid after : Outside) (source name bytes : List ℕ) (image : Li
   compile_ends status.Unput h = record {
     cause = subst (λ o. Rose o.faults (after.out).faults) out h.0;
     line = elim h.1 [
-      inl p ↦ inl (record { built = made; stored = stored_after _ _ _ _ _ same p.0; line = front _ p.1 })
+      | inl p ↦ inl (record { built = made; stored = stored_after _ _ _ _ _ same p.0; line = front _ p.1 })
       | inr p ↦ inr (inr (inr (record { built = made; cause = wrote p.0; stored = stored_below_after _ _ _ _ _ _ same p.1; line = front _ p.2 })))
     ];
   }

@@ -97,8 +97,7 @@ fn act<W: Workspace, O: Sink>(alloc: Global, words: &[Text], files: &mut W, out:
         [action, source, image]
             if action.as_str() == "compile"
                 && is_name(source.as_str())
-                && is_name(image.as_str()) =>
-        {
+                && is_name(image.as_str()) => {
             compile(alloc, source.as_str(), image.as_str(), files, out)
         }
         _ => match put_all(out, b"usage\n") {

@@ -3,10 +3,9 @@
 
 use pan_base::{List, NoMemory, RealFiles, RealOut, Text};
 use pan_command::panc;
-use std::env;
-use std::io;
 use std::process::ExitCode;
 use std::rt::Env;
+use std::{env, io};
 
 /// The exit status where there is no memory for the words.
 const NO_MEMORY: u8 = 8;

@@ -16,11 +16,14 @@ use std::alloc::Global;
 
 /// The registers of a store's address and value, t0 and t1.
 const ADDRESS: u8 = 5;
+
 const VALUE: u8 = 6;
 
 /// The registers of a call of the environment, a0, a1 and a7: the kind of end, the value that is returned, and the call.
 const END: u8 = 10;
+
 const RETURNED: u8 = 11;
+
 const CALL: u8 = 17;
 
 /// Puts at the end of the code the instructions that store the 64 bits of a value to the shared window.

@@ -77,9 +77,9 @@ terms_more start left more rest terms term n plus number is word so =
       are = are_more terms so.numbers term n is word so.are;
       makes = λ ns after at. subst (λ ms. TermsAt start ms after) (sym (append_assoc so.numbers (n ∷ []) ns)) (so.makes (n ∷ ns) after (Terms left rest after n ns begins at));
       only = λ ns after at.
-        let ms = so.only ns after at in
-        let next = terms_after left rest after n ms.0 begins ms.1 in
-        (next.others, next.terms);
+          let ms = so.only ns after at in
+          let next = terms_after left rest after n ms.0 begins ms.1 in
+          (next.others, next.terms);
     }
 
 -- no number comes after the sign
