@@ -4,5 +4,7 @@
 mod building;
 mod command;
 mod status;
+#[cfg(test)]
+mod tests;
 
 pub use command::panc;
