@@ -122,3 +122,66 @@ fn sum(alloc: Global, rest: &[Lexeme]) -> Result<(Expr, &[Lexeme]), Stop>
     let sum = chain(alloc, first, terms)?;
     Ok((sum, rest))
 }
+
+/// `e , e ;` after `!st64`, which begins at `start`.
+fn store(alloc: Global, start: u32, rest: &[Lexeme]) -> Result<(Stmt, &[Lexeme]), Stop>
+    ensures ok { IfOk result (λ r. (p : List ℕ × List ℕ) × OperandsAt (kinds rest.now) p (kinds r.1.now) × IsStore r.0 p) }
+    ensures refused { IfErr result (λ stop. WhereRefused stop ((p : List ℕ × List ℕ) (after : List Token) → ¬ OperandsAt (kinds rest.now) p after)) }
+{
+    let (addr, rest) = sum(alloc, rest)?;
+    let (_, rest) = expect(rest, Token::Comma)?;
+    let (value, rest) = sum(alloc, rest)?;
+    let (last, rest) = expect(rest, Token::Semicolon)?;
+    let store = Spanned {
+        kind: StmtKind::SharedStore(Size::B8, addr, value),
+        span: Span {
+            start,
+            end: last.end,
+        },
+    };
+    Ok((store, rest))
+}
+
+/// {!st64 e , e ;}
+fn stores(alloc: Global, rest: &[Lexeme]) -> Result<(List<Stmt>, &[Lexeme]), Stop>
+    ensures ok { IfOk result (λ r. (ps : List (List ℕ × List ℕ)) × StoresAt (kinds rest.now) ps (kinds r.1.now) × AreStores r.0 ps) }
+    ensures refused { IfErr result (λ stop. WhereRefused stop ((ps : List (List ℕ × List ℕ)) (after : List Token) → ¬ StoresAt (kinds rest.now) ps after)) }
+{
+    let mut stmts = List::new(alloc);
+    let mut left = rest;
+    'stores: while let Some((span, more)) = find(left, Token::Store64) {
+        let (stmt, after) = store(alloc, span.start, more)?;
+        stmts.push(stmt)?;
+        left = after;
+    }
+    Ok((stmts, left))
+}
+
+/// `return e ;`
+fn return_stmt(alloc: Global, rest: &[Lexeme]) -> Result<(Stmt, &[Lexeme]), Stop>
+    ensures ok { IfOk result (λ r. (ns : List ℕ) × ReturnAt (kinds rest.now) ns (kinds r.1.now) × IsReturn r.0 ns) }
+    ensures refused { IfErr result (λ stop. WhereRefused stop ((ns : List ℕ) (after : List Token) → ¬ ReturnAt (kinds rest.now) ns after)) }
+{
+    let (first, rest) = expect(rest, Token::Return)?;
+    let (value, rest) = sum(alloc, rest)?;
+    let (last, rest) = expect(rest, Token::Semicolon)?;
+    let stmt = Spanned {
+        kind: StmtKind::Return(value),
+        span: Span {
+            start: first.start,
+            end: last.end,
+        },
+    };
+    Ok((stmt, rest))
+}
+
+/// The stores and the return.
+fn body(alloc: Global, rest: &[Lexeme]) -> Result<(List<Stmt>, &[Lexeme]), Stop>
+    ensures ok { IfOk result (λ r. (stores : List (List ℕ × List ℕ)) × (ns : List ℕ) × BodyAt (kinds rest.now) stores ns (kinds r.1.now) × IsBody r.0 stores ns) }
+    ensures refused { IfErr result (λ stop. WhereRefused stop ((stores : List (List ℕ × List ℕ)) (ns : List ℕ) (after : List Token) → ¬ BodyAt (kinds rest.now) stores ns after)) }
+{
+    let (mut stmts, rest) = stores(alloc, rest)?;
+    let (last, rest) = return_stmt(alloc, rest)?;
+    stmts.push(last)?;
+    Ok((stmts, rest))
+}
