@@ -1,5 +1,6 @@
 -- The parts of a row of tokens: each is read in one way at most, and how the loops over them go on.
-use Rattle.std.proofs.Common.{◌≡◌, ◌≢◌, ℕ, suc, ◌+◌, ◌^◌, ◌<◌, ◌≤◌, List, [], ◌∷◌, ◌++◌, length, Option, Some, None, sym, ap, ◌∙◌, subst, refl, arith, append_assoc}
+use Rattle.std.proofs.Common.{◌≡◌, ◌≢◌, ℕ, suc, ◌+◌, ◌^◌, ◌<◌, ◌≤◌, ◌==◌, true, false, List, [], ◌∷◌, ◌++◌, length, Option, Some, None, sym, ap, ◌∙◌, subst, refl, arith, append_assoc}
+use Rattle.std.proofs.lemmas.Bool.Decides.{Decides-eqb}
 use Rattle.pan_base.specs.declared.span.Span.{Span}
 use Rattle.pan_base.specs.declared.operators.BinOp.{BinOp}
 use Rattle.pan_base.specs.declared.operators.BinOp.TheVariants.{Add}
@@ -12,8 +13,8 @@ use Rattle.straight_form.specs.declared.token.Token.{Token}
 use Rattle.straight_form.specs.declared.token.Token.TheVariants.{Fun, Main, Return, Store64, OpenParen, CloseParen, OpenBrace, CloseBrace, Comma, Semicolon, Plus, Number}
 use Rattle.straight_reader.specs.declared.stop.Stop.{Stop}
 use Rattle.straight_reader.specs.declared.stop.Stop.TheVariants.{NoMemory, Refused}
-use Rattle.straight_reader.specs.Scanned.{WhereRefused}
-use Rattle.straight_reader.specs.Parts.{Lacks, TermsAt, NoTerms, Terms, SumAt, Sum, OperandsAt, StoresAt, NoStores, Stores, ReturnAt, BodyAt, ProgramAt, IsStore, AreStores, IsReturn}
+use Rattle.straight_reader.specs.Scanned.{kinds, WhereRefused}
+use Rattle.straight_reader.specs.Parts.{Lacks, TermsAt, NoTerms, Terms, SumAt, Sum, OperandsAt, StoresAt, NoStores, Stores, ReturnAt, BodyAt, head_tokens, ProgramAt, IsStore, AreStores, IsReturn}
 
 append_none : {A : Type 0} (xs : List A) → xs ++ [] ≡ xs
 append_none [] = refl
@@ -30,6 +31,14 @@ cons_no_nil e = cc
 
 number_of_token : {n m : ℕ} → Number n ≡ Number m → n ≡ m
 number_of_token e = cc
+
+kinds_none : (lexemes : List (Spanned Token)) → true ≡ (length lexemes == 0) → kinds lexemes ≡ []
+kinds_none [] is = refl
+kinds_none (l ∷ ls) is = let none : suc (length ls) ≡ 0 = (Decides-eqb (length (l ∷ ls)) 0).0 (sym is) in absurd (omega arith)
+
+kinds_some : (lexemes : List (Spanned Token)) → false ≡ (length lexemes == 0) → kinds lexemes ≢ []
+kinds_some [] is none = let no : false ≡ true = is in absurd (cc)
+kinds_some (l ∷ ls) is none = absurd (cons_no_nil none)
 
 -- ---- terms
 
@@ -277,3 +286,37 @@ body_is [] [] last ns are is = is
 body_is (s ∷ ss) (p ∷ ps) last ns are is = body_cons s (ss ++ last ∷ []) p ps ns are.0 (body_is ss ps last ns are.1 is)
 body_is [] (p ∷ ps) last ns are is = absurd are
 body_is (s ∷ ss) [] last ns are is = absurd are
+
+-- ---- the program
+
+module _ (ts inner : List Token) (begins : ts ≡ head_tokens inner) where
+  body_after : (ps : List (List ℕ × List ℕ)) (ns : List ℕ) → ProgramAt ts ps ns → BodyAt inner ps ns (CloseBrace ∷ [])
+  body_after ps ns at =
+      let same : head_tokens at.inner ≡ head_tokens inner = sym at.begins ∙ begins in
+      subst (λ ts. BodyAt ts ps ns (CloseBrace ∷ [])) (tail_of (tail_of (tail_of (tail_of (tail_of same))))) at.body
+
+  -- no body comes
+  pub inner_refused : (stop : Stop) → WhereRefused stop ((ps : List (List ℕ × List ℕ)) (ns : List ℕ) (after : List Token) → ¬ BodyAt inner ps ns after) → WhereRefused stop ((ps : List (List ℕ × List ℕ)) (ns : List ℕ) → ¬ ProgramAt ts ps ns)
+  inner_refused NoMemory none = tt
+  inner_refused Refused none = λ ps ns at. none ps ns (CloseBrace ∷ []) (body_after ps ns at)
+
+  module _ (ps : List (List ℕ × List ℕ)) (ns : List ℕ) (rest : List Token) (body : BodyAt inner ps ns rest) where
+    rest_after : (qs : List (List ℕ × List ℕ)) (ms : List ℕ) → ProgramAt ts qs ms → rest ≡ CloseBrace ∷ []
+    rest_after qs ms at = (one_body inner rest (CloseBrace ∷ []) ps qs ns ms body (body_after qs ms at)).2
+
+    -- no brace comes
+    pub brace_refused : (stop : Stop) → WhereRefused stop (Lacks CloseBrace rest) → WhereRefused stop ((qs : List (List ℕ × List ℕ)) (ms : List ℕ) → ¬ ProgramAt ts qs ms)
+    brace_refused NoMemory lacks = tt
+    brace_refused Refused lacks = λ qs ms at. lacks [] (rest_after qs ms at)
+
+    module _ (more : List (Spanned Token)) (brace : rest ≡ CloseBrace ∷ kinds more) where
+      -- more comes after the brace
+      pub more_refused : false ≡ (length more == 0) → (qs : List (List ℕ × List ℕ)) (ms : List ℕ) → ¬ ProgramAt ts qs ms
+      more_refused some qs ms at = kinds_some more some (tail_of (sym brace ∙ rest_after qs ms at))
+
+      pub program_at : true ≡ (length more == 0) → ProgramAt ts ps ns
+      program_at none = record {
+        inner = inner;
+        begins = begins;
+        body = subst (BodyAt inner ps ns) (brace ∙ ap (λ ts. CloseBrace ∷ ts) (kinds_none more none)) body;
+      }

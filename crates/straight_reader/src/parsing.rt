@@ -9,7 +9,7 @@ ghost use Rattle.straight_form.specs.Form.{IsSum, AreTerms, IsBody, IsStraight};
 ghost use Rattle.straight_form.specs.declared.token.Token.{Token};
 ghost use Rattle.straight_form.specs.declared.token.Token.TheVariants as token;
 ghost use Rattle.straight_reader.specs.Scanned.{kinds, WhereRefused};
-ghost use Rattle.straight_reader.specs.Parts.{Lacks, TermsAt, SumAt, OperandsAt, StoresAt, ReturnAt, BodyAt, ProgramAt, IsStore, AreStores, IsReturn};
+ghost use Rattle.straight_reader.specs.Parts.{Lacks, TermsAt, SumAt, OperandsAt, StoresAt, ReturnAt, BodyAt, head_tokens, ProgramAt, IsStore, AreStores, IsReturn};
 
 use crate::scanning::Lexeme;
 use crate::stop::Stop;
@@ -184,4 +184,53 @@ fn body(alloc: Global, rest: &[Lexeme]) -> Result<(List<Stmt>, &[Lexeme]), Stop>
     let (last, rest) = return_stmt(alloc, rest)?;
     stmts.push(last)?;
     Ok((stmts, rest))
+}
+
+/// `fun main ( ) {`, and the place of `fun`.
+fn head(rest: &[Lexeme]) -> Result<(Span, &[Lexeme]), Stop>
+    ensures ok { IfOk result (λ r. kinds rest.now ≡ head_tokens (kinds r.1.now)) }
+    ensures refused { IfErr result (λ stop. WhereRefused stop ((more : List Token) → kinds rest.now ≢ head_tokens more)) }
+{
+    let (first, rest) = expect(rest, Token::Fun)?;
+    let (_, rest) = expect(rest, Token::Main)?;
+    let (_, rest) = expect(rest, Token::OpenParen)?;
+    let (_, rest) = expect(rest, Token::CloseParen)?;
+    let (_, rest) = expect(rest, Token::OpenBrace)?;
+    Ok((first, rest))
+}
+
+/// The program whose main function has these statements.
+fn program_of(alloc: Global, stmts: List<Stmt>, span: Span) -> Result<Program, NoMemory>
+    ensures { IfOk result (λ program. (stores : List (List ℕ × List ℕ)) (ns : List ℕ) → IsBody stmts stores ns → IsStraight program stores ns) }
+{
+    let main = Function {
+        name: Text::from_str(alloc, "main")?,
+        params: List::new(alloc),
+        result: Shape::Word,
+        body: BlockOf { stmts },
+        span,
+    };
+    Ok(Program {
+        exceptions: List::new(alloc),
+        functions: single(alloc, main)?,
+    })
+}
+
+/// The program that all of the tokens are.
+pub fn parse(alloc: Global, lexemes: &[Lexeme]) -> Result<Program, Stop>
+    ensures ok { IfOk result (λ program. (stores : List (List ℕ × List ℕ)) × (ns : List ℕ) × ProgramAt (kinds lexemes.now) stores ns × IsStraight program stores ns) }
+    ensures refused { IfErr result (λ stop. WhereRefused stop ((stores : List (List ℕ × List ℕ)) (ns : List ℕ) → ¬ ProgramAt (kinds lexemes.now) stores ns)) }
+{
+    let (first, rest) = head(lexemes)?;
+    let (stmts, rest) = body(alloc, rest)?;
+    let (last, rest) = expect(rest, Token::CloseBrace)?;
+    if !rest.is_empty() {
+        return Err(Stop::Refused);
+    }
+    let span = Span {
+        start: first.start,
+        end: last.end,
+    };
+    let program = program_of(alloc, stmts, span)?;
+    Ok(program)
 }
