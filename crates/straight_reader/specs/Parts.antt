@@ -45,10 +45,14 @@ pub record BodyAt (ts : List Token) (stores : List (List ℕ × List ℕ)) (resu
   pub first : StoresAt ts stores last
   pub returns : ReturnAt last result after
 
+-- fun main ( ) {, and these tokens after it
+abbrev pub head_tokens : List Token → List Token
+head_tokens more = Fun ∷ Main ∷ OpenParen ∷ CloseParen ∷ OpenBrace ∷ more
+
 -- fun main ( ) { body }, and nothing more
 pub record ProgramAt (ts : List Token) (stores : List (List ℕ × List ℕ)) (result : List ℕ) : Type 0 where
   pub inner : List Token
-  pub begins : ts ≡ Fun ∷ Main ∷ OpenParen ∷ CloseParen ∷ OpenBrace ∷ inner
+  pub begins : ts ≡ head_tokens inner
   pub body : BodyAt inner stores result (CloseBrace ∷ [])
 
 -- the statement stores these sums

@@ -9,7 +9,7 @@ ghost use Rattle.straight_form.specs.Form.{IsSum, AreTerms, IsBody, IsStraight};
 ghost use Rattle.straight_form.specs.declared.token.Token.{Token};
 ghost use Rattle.straight_form.specs.declared.token.Token.TheVariants as token;
 ghost use Rattle.straight_reader.specs.Scanned.{kinds, WhereRefused};
-ghost use Rattle.straight_reader.specs.Parts.{Lacks, TermsAt, SumAt, OperandsAt, StoresAt, ReturnAt, BodyAt, ProgramAt, IsStore, AreStores, IsReturn};
+ghost use Rattle.straight_reader.specs.Parts.{Lacks, TermsAt, SumAt, OperandsAt, StoresAt, ReturnAt, BodyAt, head_tokens, ProgramAt, IsStore, AreStores, IsReturn};
 
 use crate::scanning::Lexeme;
 use crate::stop::Stop;
@@ -121,4 +121,116 @@ fn sum(alloc: Global, rest: &[Lexeme]) -> Result<(Expr, &[Lexeme]), Stop>
     let (terms, rest) = terms(alloc, rest)?;
     let sum = chain(alloc, first, terms)?;
     Ok((sum, rest))
+}
+
+/// `e , e ;` after `!st64`, which begins at `start`.
+fn store(alloc: Global, start: u32, rest: &[Lexeme]) -> Result<(Stmt, &[Lexeme]), Stop>
+    ensures ok { IfOk result (λ r. (p : List ℕ × List ℕ) × OperandsAt (kinds rest.now) p (kinds r.1.now) × IsStore r.0 p) }
+    ensures refused { IfErr result (λ stop. WhereRefused stop ((p : List ℕ × List ℕ) (after : List Token) → ¬ OperandsAt (kinds rest.now) p after)) }
+{
+    let (addr, rest) = sum(alloc, rest)?;
+    let (_, rest) = expect(rest, Token::Comma)?;
+    let (value, rest) = sum(alloc, rest)?;
+    let (last, rest) = expect(rest, Token::Semicolon)?;
+    let store = Spanned {
+        kind: StmtKind::SharedStore(Size::B8, addr, value),
+        span: Span {
+            start,
+            end: last.end,
+        },
+    };
+    Ok((store, rest))
+}
+
+/// {!st64 e , e ;}
+fn stores(alloc: Global, rest: &[Lexeme]) -> Result<(List<Stmt>, &[Lexeme]), Stop>
+    ensures ok { IfOk result (λ r. (ps : List (List ℕ × List ℕ)) × StoresAt (kinds rest.now) ps (kinds r.1.now) × AreStores r.0 ps) }
+    ensures refused { IfErr result (λ stop. WhereRefused stop ((ps : List (List ℕ × List ℕ)) (after : List Token) → ¬ StoresAt (kinds rest.now) ps after)) }
+{
+    let mut stmts = List::new(alloc);
+    let mut left = rest;
+    'stores: while let Some((span, more)) = find(left, Token::Store64) {
+        let (stmt, after) = store(alloc, span.start, more)?;
+        stmts.push(stmt)?;
+        left = after;
+    }
+    Ok((stmts, left))
+}
+
+/// `return e ;`
+fn return_stmt(alloc: Global, rest: &[Lexeme]) -> Result<(Stmt, &[Lexeme]), Stop>
+    ensures ok { IfOk result (λ r. (ns : List ℕ) × ReturnAt (kinds rest.now) ns (kinds r.1.now) × IsReturn r.0 ns) }
+    ensures refused { IfErr result (λ stop. WhereRefused stop ((ns : List ℕ) (after : List Token) → ¬ ReturnAt (kinds rest.now) ns after)) }
+{
+    let (first, rest) = expect(rest, Token::Return)?;
+    let (value, rest) = sum(alloc, rest)?;
+    let (last, rest) = expect(rest, Token::Semicolon)?;
+    let stmt = Spanned {
+        kind: StmtKind::Return(value),
+        span: Span {
+            start: first.start,
+            end: last.end,
+        },
+    };
+    Ok((stmt, rest))
+}
+
+/// The stores and the return.
+fn body(alloc: Global, rest: &[Lexeme]) -> Result<(List<Stmt>, &[Lexeme]), Stop>
+    ensures ok { IfOk result (λ r. (stores : List (List ℕ × List ℕ)) × (ns : List ℕ) × BodyAt (kinds rest.now) stores ns (kinds r.1.now) × IsBody r.0 stores ns) }
+    ensures refused { IfErr result (λ stop. WhereRefused stop ((stores : List (List ℕ × List ℕ)) (ns : List ℕ) (after : List Token) → ¬ BodyAt (kinds rest.now) stores ns after)) }
+{
+    let (mut stmts, rest) = stores(alloc, rest)?;
+    let (last, rest) = return_stmt(alloc, rest)?;
+    stmts.push(last)?;
+    Ok((stmts, rest))
+}
+
+/// `fun main ( ) {`, and the place of `fun`.
+fn head(rest: &[Lexeme]) -> Result<(Span, &[Lexeme]), Stop>
+    ensures ok { IfOk result (λ r. kinds rest.now ≡ head_tokens (kinds r.1.now)) }
+    ensures refused { IfErr result (λ stop. WhereRefused stop ((more : List Token) → kinds rest.now ≢ head_tokens more)) }
+{
+    let (first, rest) = expect(rest, Token::Fun)?;
+    let (_, rest) = expect(rest, Token::Main)?;
+    let (_, rest) = expect(rest, Token::OpenParen)?;
+    let (_, rest) = expect(rest, Token::CloseParen)?;
+    let (_, rest) = expect(rest, Token::OpenBrace)?;
+    Ok((first, rest))
+}
+
+/// The program whose main function has these statements.
+fn program_of(alloc: Global, stmts: List<Stmt>, span: Span) -> Result<Program, NoMemory>
+    ensures { IfOk result (λ program. (stores : List (List ℕ × List ℕ)) (ns : List ℕ) → IsBody stmts stores ns → IsStraight program stores ns) }
+{
+    let main = Function {
+        name: Text::from_str(alloc, "main")?,
+        params: List::new(alloc),
+        result: Shape::Word,
+        body: BlockOf { stmts },
+        span,
+    };
+    Ok(Program {
+        exceptions: List::new(alloc),
+        functions: single(alloc, main)?,
+    })
+}
+
+/// The program that all of the tokens are.
+pub fn parse(alloc: Global, lexemes: &[Lexeme]) -> Result<Program, Stop>
+    ensures ok { IfOk result (λ program. (stores : List (List ℕ × List ℕ)) × (ns : List ℕ) × ProgramAt (kinds lexemes.now) stores ns × IsStraight program stores ns) }
+    ensures refused { IfErr result (λ stop. WhereRefused stop ((stores : List (List ℕ × List ℕ)) (ns : List ℕ) → ¬ ProgramAt (kinds lexemes.now) stores ns)) }
+{
+    let (first, rest) = head(lexemes)?;
+    let (stmts, rest) = body(alloc, rest)?;
+    let (last, rest) = expect(rest, Token::CloseBrace)?;
+    if !rest.is_empty() {
+        return Err(Stop::Refused);
+    }
+    let span = Span {
+        start: first.start,
+        end: last.end,
+    };
+    let program = program_of(alloc, stmts, span)?;
+    Ok(program)
 }
