@@ -1,0 +1,170 @@
+//! The images of known programs, and the words of known constants.
+
+ghost use Rattle.std.specs.Prelude.{◌≡◌, ℕ, List, [], ◌∷◌, ◌≤◌, map, sum, IfOk};
+ghost use Rattle.pan_tree.specs.Weight.{expr_weight, stmt_weight, weight};
+ghost use Rattle.pan_tree.specs.declared.spanned.Spanned.{Spanned};
+ghost use Rattle.pan_tree.specs.declared.syntax.ExprKind.{ExprKind};
+ghost use Rattle.straight_form.specs.Form.{IsSum, IsBody, IsStraight};
+
+use crate::compiling::compile;
+use crate::constants::push_constant;
+use crate::evaluating::evaluate;
+use crate::words::spell;
+use pan_base::{BinOp, Boxed, List, NoMemory, Size, Span, Text, single};
+use pan_tree::{BlockOf, Expr, ExprKind, Function, Program, Shape, Spanned, Stmt, StmtKind};
+use std::alloc::Global;
+use std::test::Fail;
+
+const NOWHERE: Span = Span { start: 0, end: 0 };
+
+/// The image of `fun main() { return 7; }`: PNK1, 16 bytes of code, the entry 0, no names, no bound, a names part of no
+/// bytes, zero, and then ADDI x11, x0, 7; ADDI x10, x0, 0; ADDI x17, x0, 0; ECALL.
+const RETURN_7: [u8; 48] = [
+    0x50, 0x4e, 0x4b, 0x31, 16, 0, 0, 0, 0, 0, 0, 0, 0, 0, 0, 0, 255, 255, 255, 255, 255, 255, 255,
+    255, 0, 0, 0, 0, 0, 0, 0, 0, 0x93, 0x05, 0x70, 0x00, 0x13, 0x05, 0x00, 0x00, 0x93, 0x08, 0x00,
+    0x00, 0x73, 0x00, 0x00, 0x00,
+];
+
+/// The image of `fun main() { !st64 0x40000000, 1; return 0; }`, with 32 bytes of code: LUI x5, 0x40000;
+/// ADDI x5, x5, 0; ADDI x6, x0, 1; SD x6, 0(x5); ADDI x11, x0, 0; ADDI x10, x0, 0; ADDI x17, x0, 0; ECALL.
+const STORE_1: [u8; 64] = [
+    0x50, 0x4e, 0x4b, 0x31, 32, 0, 0, 0, 0, 0, 0, 0, 0, 0, 0, 0, 255, 255, 255, 255, 255, 255, 255,
+    255, 0, 0, 0, 0, 0, 0, 0, 0, 0xb7, 0x02, 0x00, 0x40, 0x93, 0x82, 0x02, 0x00, 0x13, 0x03, 0x10,
+    0x00, 0x23, 0xb0, 0x62, 0x00, 0x93, 0x05, 0x00, 0x00, 0x13, 0x05, 0x00, 0x00, 0x93, 0x08, 0x00,
+    0x00, 0x73, 0x00, 0x00, 0x00,
+];
+
+/// Constants, and the words of the instructions that put them into x11.
+const CONSTANTS: [(u64, &[u32]); 6] = [
+    (7, &[0x0070_0593]),
+    (u64::MAX, &[0xfff0_0593]),
+    (2047, &[0x7ff0_0593]),
+    (2048, &[0x0000_15b7, 0x8005_8593]),
+    (0x1234_5678, &[0x1234_55b7, 0x6785_8593]),
+    (
+        0x7fff_ffff,
+        &[0x0008_05b7, 0x0005_8593, 0x00c5_9593, 0xfff5_8593],
+    ),
+];
+
+/// The expression of this number.
+fn number(number: u64) -> Expr
+    ensures form { IsSum result.kind (number ∷ []) }
+    ensures light { expr_weight result ≡ 2 }
+{
+    Spanned {
+        kind: ExprKind::Number(number),
+        span: NOWHERE,
+    }
+}
+
+/// `return value;`
+fn returning(value: u64) -> Stmt
+    ensures form { (e : Spanned ExprKind) × (result.kind ≡ StmtKind.Return e) × IsSum e.kind (value ∷ []) }
+    ensures light { stmt_weight result ≡ 6 }
+{
+    Spanned {
+        kind: StmtKind::Return(number(value)),
+        span: NOWHERE,
+    }
+}
+
+/// `!st64 address, value;`
+fn storing(address: u64, value: u64) -> Stmt
+    ensures form { (a : Spanned ExprKind) × (e : Spanned ExprKind)
+        × (result.kind ≡ StmtKind.SharedStore Size.B8 a e) × IsSum a.kind (address ∷ []) × IsSum e.kind (value ∷ []) }
+    ensures light { stmt_weight result ≡ 8 }
+{
+    Spanned {
+        kind: StmtKind::SharedStore(Size::B8, number(address), number(value)),
+        span: NOWHERE,
+    }
+}
+
+/// The program whose main function has these statements.
+fn program(alloc: Global, stmts: List<Stmt>) -> Result<Program, NoMemory>
+    ensures form { IfOk result
+        (λ p. (stores : List (List ℕ × List ℕ)) (sum : List ℕ) → IsBody stmts stores sum → IsStraight p stores sum) }
+    ensures light { IfOk result (λ p. sum (map stmt_weight stmts) ≤ 16379 → weight p ≤ 16384) }
+{
+    let main = Function {
+        name: Text::from_str(alloc, "main")?,
+        params: List::new(alloc),
+        result: Shape::Word,
+        body: BlockOf { stmts },
+        span: NOWHERE,
+    };
+    Ok(Program {
+        exceptions: List::new(alloc),
+        functions: single(alloc, main)?,
+    })
+}
+
+/// `fun main() { return value; }`
+fn return_program(alloc: Global, value: u64) -> Result<Program, NoMemory>
+    ensures form { IfOk result (λ p. IsStraight p [] (value ∷ [])) }
+    ensures light { IfOk result (λ p. weight p ≤ 16384) }
+{
+    let stmts = single(alloc, returning(value))?;
+    let program = program(alloc, stmts)?;
+    Ok(program)
+}
+
+/// `fun main() { !st64 address, stored; return value; }`
+fn store_program(alloc: Global, address: u64, stored: u64, value: u64) -> Result<Program, NoMemory>
+    ensures form { IfOk result (λ p. IsStraight p ((address ∷ [], stored ∷ []) ∷ []) (value ∷ [])) }
+    ensures light { IfOk result (λ p. weight p ≤ 16384) }
+{
+    let mut stmts = single(alloc, storing(address, stored))?;
+    stmts.push(returning(value))?;
+    let program = program(alloc, stmts)?;
+    Ok(program)
+}
+
+#[test]
+fn makes_images(rt: HostRuntime) -> Result<(), Fail> {
+    let alloc = rt.alloc();
+    let program = return_program(alloc, 7)?;
+    let image = compile(alloc, &program)?;
+    assert_eq!(rt; image.as_slice(), RETURN_7.as_slice());
+    let program = store_program(alloc, 0x4000_0000, 1, 0)?;
+    let image = compile(alloc, &program)?;
+    assert_eq!(rt; image.as_slice(), STORE_1.as_slice());
+    Ok(())
+}
+
+/// The bytes of words.
+fn bytes_of(alloc: Global, words: &[u32]) -> Result<Vec<u8>, NoMemory> {
+    let mut bytes = Vec::new(alloc);
+    for word in words {
+        bytes.extend_from_slice(&word.to_le_bytes())?;
+    }
+    Ok(bytes)
+}
+
+#[test]
+fn makes_constants(rt: HostRuntime) -> Result<(), Fail> {
+    let alloc = rt.alloc();
+    for (word, want) in CONSTANTS {
+        let mut code = List::new(alloc);
+        push_constant(&mut code, 11, word)?;
+        let bytes = spell(alloc, code.as_slice())?;
+        let want = bytes_of(alloc, want)?;
+        assert_eq!(rt; bytes.as_slice(), want.as_slice(), "at {word}");
+    }
+    Ok(())
+}
+
+/// A sum wraps at 2^64.
+#[test]
+fn evaluates_sums(rt: HostRuntime) -> Result<(), Fail> {
+    let alloc = rt.alloc();
+    let mut terms = single(alloc, (BinOp::Add, number(5)))?;
+    terms.push((BinOp::Add, number(u64::MAX)))?;
+    let sum = Spanned {
+        kind: ExprKind::Chain(Boxed::new(alloc, number(3))?, terms),
+        span: NOWHERE,
+    };
+    assert_eq!(rt; evaluate(&sum), 7);
+    Ok(())
+}
