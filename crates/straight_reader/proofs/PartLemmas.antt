@@ -1,7 +1,6 @@
 -- The parts of a row of tokens: each is read in one way at most, and how the loops over them go on.
-use Rattle.std.proofs.Common.{◌≡◌, ◌≢◌, ℕ, suc, ◌+◌, ◌^◌, ◌<◌, ◌≤◌, ◌==◌, true, false, List, [], ◌∷◌, ◌++◌, length, Option, Some, None, sym, ap, ◌∙◌, subst, refl, arith, append_assoc}
+use Rattle.std.proofs.Common.{◌≡◌, ◌≢◌, ℕ, suc, ◌^◌, ◌<◌, ◌≤◌, ◌==◌, true, false, List, [], ◌∷◌, ◌++◌, length, sym, ap, ◌∙◌, subst, refl, arith, append_assoc}
 use Rattle.std.proofs.lemmas.Bool.Decides.{Decides-eqb}
-use Rattle.pan_base.specs.declared.span.Span.{Span}
 use Rattle.pan_base.specs.declared.operators.BinOp.{BinOp}
 use Rattle.pan_base.specs.declared.operators.BinOp.TheVariants.{Add}
 use Rattle.pan_tree.specs.declared.spanned.Spanned.{Spanned}
@@ -10,7 +9,7 @@ use Rattle.pan_tree.specs.declared.syntax.ExprKind.TheVariants as expr
 use Rattle.pan_tree.specs.declared.syntax.StmtKind.{StmtKind}
 use Rattle.straight_form.specs.Form.{IsSum, AreTerms, IsBody}
 use Rattle.straight_form.specs.declared.token.Token.{Token}
-use Rattle.straight_form.specs.declared.token.Token.TheVariants.{Fun, Main, Return, Store64, OpenParen, CloseParen, OpenBrace, CloseBrace, Comma, Semicolon, Plus, Number}
+use Rattle.straight_form.specs.declared.token.Token.TheVariants.{Return, Store64, CloseBrace, Comma, Semicolon, Plus, Number}
 use Rattle.straight_reader.specs.declared.stop.Stop.{Stop}
 use Rattle.straight_reader.specs.declared.stop.Stop.TheVariants.{NoMemory, Refused}
 use Rattle.straight_reader.specs.Scanned.{kinds, WhereRefused}
@@ -222,9 +221,9 @@ stores_more start left more rest stmts stmt p begins operands is so = record {
   are = are_stores_more stmts so.stores stmt p is so.are;
   makes = λ ps after at. subst (λ qs. StoresAt start qs after) (sym (append_assoc so.stores (p ∷ []) ps)) (so.makes (p ∷ ps) after (Stores left more rest after p ps begins operands at));
   only = λ ps after at.
-    let qs = so.only ps after at in
-    let next = stores_after left more rest after p qs.0 begins operands qs.1 in
-    (next.others, next.stores);
+      let qs = so.only ps after at in
+      let next = stores_after left more rest after p qs.0 begins operands qs.1 in
+      (next.others, next.stores);
 }
 
 -- no operands come after the word
@@ -247,8 +246,8 @@ module _ (ts value : List Token) (begins : ts ≡ Return ∷ value) (ns : List �
   pub return_refused : (stop : Stop) → WhereRefused stop (Lacks Semicolon last) → WhereRefused stop ((ms : List ℕ) (after : List Token) → ¬ ReturnAt ts ms after)
   return_refused NoMemory lacks = tt
   return_refused Refused lacks = λ ms after at.
-    let other : SumAt value ms (Semicolon ∷ after) = subst (λ ts. SumAt ts ms (Semicolon ∷ after)) (tail_of (sym at.begins ∙ begins)) at.sum in
-    lacks after (one_sum value last (Semicolon ∷ after) ns ms sum other).1
+      let other : SumAt value ms (Semicolon ∷ after) = subst (λ ts. SumAt ts ms (Semicolon ∷ after)) (tail_of (sym at.begins ∙ begins)) at.sum in
+      lacks after (one_sum value last (Semicolon ∷ after) ns ms sum other).1
 
   pub return_at : (after : List Token) → last ≡ Semicolon ∷ after → ReturnAt ts ns after
   return_at after semicolon = record { value = value; begins = begins; sum = subst (SumAt value ns) semicolon sum }
@@ -320,3 +319,9 @@ module _ (ts inner : List Token) (begins : ts ≡ head_tokens inner) where
         begins = begins;
         body = subst (BodyAt inner ps ns) (brace ∙ ap (λ ts. CloseBrace ∷ ts) (kinds_none more none)) body;
       }
+
+-- a program is read in one way
+pub one_program : (ts : List Token) (ps qs : List (List ℕ × List ℕ)) (ns ms : List ℕ) → ProgramAt ts ps ns → ProgramAt ts qs ms → (ps ≡ qs) × (ns ≡ ms)
+one_program ts ps qs ns ms one other =
+    let same = one_body one.inner (CloseBrace ∷ []) (CloseBrace ∷ []) ps qs ns ms one.body (body_after ts one.inner one.begins qs ms other) in
+    (same.0, same.1)

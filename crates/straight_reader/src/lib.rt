@@ -8,4 +8,4 @@ mod scanning;
 mod stop;
 mod tokens;
 
-pub use reading::read;
+pub use reading::{one_weight, read};

@@ -21,7 +21,9 @@ returns-then-not-is_empty-clause-refused c =
 
 pub returns-clause-ok : goal.returns-clause-ok
 returns-clause-ok c =
-    let body = c.in_ok-stmts.ensures.ok in
-    (body.0, body.1,
+    let body = c.in_ok-stmts.ensures.ok in (
+      body.0,
+      body.1,
       program_at (kinds c.args.lexemes.now) (kinds c.in_ok-first.rest.now) c.in_ok-first.ensures.ok body.0 body.1 (kinds c.in_ok-stmts.rest.now) body.2 c.in_ok-last.rest.now c.in_ok-last.ensures.ok c.if-not-is_empty.ensures,
-      c.in_ok-program.ensures body.0 body.1 body.3)
+      c.in_ok-program.ensures body.0 body.1 body.3,
+    )

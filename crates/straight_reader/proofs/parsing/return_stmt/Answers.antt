@@ -12,7 +12,8 @@ returns-in_err-last-clause-refused c =
 
 pub returns-clause-ok : goal.returns-clause-ok
 returns-clause-ok c =
-    let value = c.in_ok-value.ensures.ok in
-    (value.0,
+    let value = c.in_ok-value.ensures.ok in (
+      value.0,
       return_at (kinds c.args.rest.now) (kinds c.in_ok-first.rest.now) c.in_ok-first.ensures.ok value.0 (kinds c.in_ok-value.rest.now) value.1 (kinds c.in_ok-last.rest.now) c.in_ok-last.ensures.ok,
-      (c.in_ok-value.value, refl, value.2))
+      (c.in_ok-value.value, refl, value.2),
+    )

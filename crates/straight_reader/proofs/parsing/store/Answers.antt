@@ -26,7 +26,8 @@ returns-in_err-last-clause-refused c =
 pub returns-clause-ok : goal.returns-clause-ok
 returns-clause-ok c =
     let addr = c.in_ok-addr.ensures.ok in
-    let value = c.in_ok-value.ensures.ok in
-    ((addr.0, value.0),
+    let value = c.in_ok-value.ensures.ok in (
+      (addr.0, value.0),
       operands_at (kinds c.args.rest.now) addr.0 (kinds c.in_ok-addr.rest.now) addr.1 (kinds c.in_ok-rest.rest.now) c.in_ok-rest.ensures.ok value.0 (kinds c.in_ok-value.rest.now) value.1 (kinds c.in_ok-last.rest.now) c.in_ok-last.ensures.ok,
-      (c.in_ok-addr.addr, c.in_ok-value.value, refl, addr.2, value.2))
+      (c.in_ok-addr.addr, c.in_ok-value.value, refl, addr.2, value.2),
+    )
