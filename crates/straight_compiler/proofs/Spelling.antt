@@ -14,7 +14,7 @@ pub completes_more : (instrs : List Instr) (i : ℕ) (d : Instr) (w : ℕ) (byte
 completes_more instrs i d w bytes new below so_far stands grown more spelled =
     let here : drop i instrs ≡ get_or instrs i d ∷ drop (i + 1) instrs = drop_more instrs i d below in
     subst (λ bs. Spells bs instrs) (sym (append_assoc bytes (to_le_bytes w32 w) more) ∙ ap (λ bs. bs ++ more) (sym grown))
-        (so_far (to_le_bytes w32 w ++ more) (subst (Spells (to_le_bytes w32 w ++ more)) (sym here) (w, more, refl, stands, spelled)))
+    (so_far (to_le_bytes w32 w ++ more) (subst (Spells (to_le_bytes w32 w ++ more)) (sym here) (w, more, refl, stands, spelled)))
 
 pub completes_all : (instrs : List Instr) (i : ℕ) (bytes : List ℕ) → length instrs ≤ i → Completes instrs i bytes → Spells bytes instrs
 completes_all instrs i bytes past so_far = subst (λ bs. Spells bs instrs) (append-nil bytes) (so_far [] (subst (Spells []) (sym (drop_all i instrs past)) refl))

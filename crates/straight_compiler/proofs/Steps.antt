@@ -106,7 +106,7 @@ fetches : (s : State) (front rest : List ℕ) (w : ℕ) → w < 2 ^ 32 → s.cod
 fetches s front rest w small code at =
     let skipped : drop (s.pc - 0x100000000) s.code ≡ to_le_bytes w32 w ++ rest = ap (λ c. drop (s.pc - 0x100000000) c) code ∙ drop_at front _ _ (omega arith) in
     let word : from_le_bytes w32 (take 4 (drop (s.pc - 0x100000000) s.code)) ≡ w =
-        ap (λ b. from_le_bytes w32 (take 4 b)) skipped ∙ from_le_bytes-to_le_bytes_4 w small in
+    ap (λ b. from_le_bytes w32 (take 4 b)) skipped ∙ from_le_bytes-to_le_bytes_4 w small in
     let size : length s.code ≡ length front + (4 + length rest) = ap length code ∙ ap (λ n. n) (simp length-append) in
     let low : nat_le 0x100000000 s.pc ≡ true = le-leb _ _ (omega arith) in
     let high : nat_le (s.pc + 4) (0x100000000 + length s.code) ≡ true = le-leb _ _ (omega arith) in

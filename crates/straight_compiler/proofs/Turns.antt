@@ -65,7 +65,7 @@ completes_more stmts i item code new below is so_far g more p =
     let here : drop i stmts ≡ item ∷ drop (i + 1) stmts = drop_more stmts i item below ∙ ap (λ x. x ∷ drop (i + 1) stmts) (sym is) in
     let both = performs_then (run_kind item.kind) (map does (drop (i + 1) stmts)) g.added more g.performs p in
     subst (Performs (in_turn (map does stmts))) (sym (append_assoc code g.added more) ∙ ap (λ c. c ++ more) (sym g.grown))
-        (so_far (g.added ++ more) (subst (λ ss. Performs (in_turn (map does ss)) (g.added ++ more)) (sym here) both))
+    (so_far (g.added ++ more) (subst (λ ss. Performs (in_turn (map does ss)) (g.added ++ more)) (sym here) both))
 
 pub completes_all : (stmts : List Stmt) (i : ℕ) (code : List Instr) → length stmts ≤ i → Completes stmts i code → Performs (in_turn (map does stmts)) code
 completes_all stmts i code past so_far =

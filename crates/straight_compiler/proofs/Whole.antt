@@ -48,7 +48,7 @@ ready : (code memory : List ℕ) (stack : ℕ) → IsLawfulMemory memory → IsL
 ready code memory stack m s = record {
   registers = simp length-set;
   below = λ r. elim r as (λ r. begin r + length (bytes_of r (booted code [] memory stack).memory) ≤ 0x40000000) [
-    region.Block ↦ omega arith
+    | region.Block ↦ omega arith
     | region.Globals ↦ omega arith
     | region.Local ↦ (let h = m.most in omega arith)
     | region.Stack ↦ (let h = s.most in rw length-replicate (omega arith))
@@ -75,7 +75,7 @@ module _ (program : Program) (main : Function) (functions : program.functions �
   like : (memory : List ℕ) (replies : List Replied) → IsSourceLike (source program memory replies)
   like memory replies =
       let ends : (n : ℕ) → IsOfSource (((source program memory replies n).behaviour).ending) =
-          λ n. subst (λ (s : Seen). IsOfSource ((s.behaviour).ending)) (sym (source_is memory replies n)) (body_ends (main.body).stmts _ _) in
+      λ n. subst (λ (s : Seen). IsOfSource ((s.behaviour).ending)) (sym (source_is memory replies n)) (body_ends (main.body).stmts _ _) in
       record { no_fault = λ n. (ends n).no_fault; no_stack = λ n. (ends n).no_stack }
 
   module _ (instrs : List Instr) (code : List ℕ) (performs : Performs (in_turn (map does (main.body).stmts)) instrs) (spells : Spells code instrs) where
