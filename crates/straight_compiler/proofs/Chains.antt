@@ -1,5 +1,5 @@
 -- What expressions give, variant by variant.
-use Rattle.std.proofs.Common.{◌≡◌, ℕ, refl, sym, ap, ◌∙◌, List, [], ◌∷◌, map, Option, Some, None}
+use Rattle.std.proofs.Common.{◌≡◌, ℕ, refl, sym, ap, ◌∙◌, List, map, Option, Some, None}
 use Rattle.std.specs.Option.{option_map}
 use Rattle.pan_base.specs.declared.operators.BinOp.{BinOp}
 use Rattle.pan_tree.specs.declared.spanned.Spanned.{Spanned}

@@ -1,6 +1,5 @@
 -- The three ways to a constant.
-use Rattle.std.proofs.Common.{◌≡◌, ◌≢◌, ℕ, ℤ, pos, negsuc, ◌+◌, ◌-◌, ◌*◌, ◌/◌, ◌%◌, ◌^◌, ◌<◌, ◌≤◌, ◌≤ℤ◌, refl, sym, ap, ◌∙◌, subst, List, [], ◌∷◌, ◌++◌, append_assoc, length, Bool, true, false, nat_lt, cond, arith}
-use Rattle.std.specs.List.{All}
+use Rattle.std.proofs.Common.{◌≡◌, ℕ, ℤ, pos, negsuc, ◌+◌, ◌*◌, ◌/◌, ◌%◌, ◌^◌, ◌<◌, ◌≤◌, ◌≤ℤ◌, sym, ap, ◌∙◌, subst, List, [], ◌∷◌, ◌++◌, append_assoc, arith}
 use Rattle.std.proofs.lemmas.List.{length-append}
 use Rattle.std.proofs.lemmas.List.Elements.{All-nil, All-cons, All-push}
 use Rattle.std.proofs.lemmas.Bool.Decides.{nat_tests}
@@ -9,7 +8,7 @@ use Rattle.pan_base.specs.declared.operators.ShiftOp.TheVariants as shift_op
 use Rattle.pan_base.specs.declared.operators.UOp.TheVariants as uop
 use Rattle.riscv_isa.specs.declared.instr.Instr.{Instr}
 use Rattle.riscv_isa.specs.declared.instr.Instr.TheVariants as instr
-use Rattle.riscv_isa.specs.Step.{State, plus, upper}
+use Rattle.riscv_isa.specs.Step.{plus, upper}
 use Rattle.straight_compiler.specs.Follow.{IsInline, Leads, magnitude, most, SetsRegister}
 use Rattle.straight_compiler.proofs.Setting.{from_zero, from_upper, added, shifted}
 

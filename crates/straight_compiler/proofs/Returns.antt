@@ -1,12 +1,10 @@
 -- The instructions of a return.
-use Rattle.std.proofs.Common.{◌≡◌, ◌≢◌, ℕ, ◌+◌, ◌*◌, ◌^◌, ◌<◌, ◌≤◌, refl, sym, ap, ◌∙◌, subst, List, [], ◌∷◌, ◌++◌, append_assoc, length, set, get_or, Option, Some, None, arith}
-use Rattle.std.specs.Prelude.{slice_index}
-use Rattle.std.specs.List.{All}
+use Rattle.std.proofs.Common.{◌≡◌, ℕ, refl, sym, ap, ◌∙◌, List, [], ◌∷◌, ◌++◌, append_assoc, length, set, get_or, Option, Some, None, arith}
 use Rattle.std.proofs.lemmas.List.{append-nil, length-append, length-set, get_or-set_same, get_or-set_other}
 use Rattle.std.proofs.lemmas.List.Elements.{All-append, All-push}
-use Rattle.pan_base.specs.Events.{Replied, Event, Behaviour, Ending, Exit, Fails, only}
+use Rattle.pan_base.specs.Events.{Replied, Event, Behaviour, Ending, Exit, only}
 use Rattle.pan_control.specs.World.{World}
-use Rattle.pan_control.specs.Control.{Outcome, Returned, with_value}
+use Rattle.pan_control.specs.Control.{Returned, with_value}
 use Rattle.pan_tree.specs.declared.spanned.Spanned.{Spanned}
 use Rattle.pan_tree.specs.declared.syntax.ExprKind.{ExprKind}
 use Rattle.pan_tree.specs.declared.syntax.StmtKind.TheVariants as stmt
@@ -18,7 +16,7 @@ use Rattle.riscv_isa.specs.Step.{State, Config, reg, act}
 use Rattle.riscv_isa.specs.Step as step
 use Rattle.riscv_isa.specs.Machine.{continue}
 use Rattle.straight_compiler.specs.Follow.{IsInline, follow, Leads, SetsRegister}
-use Rattle.straight_compiler.specs.Performs.{shown, shown_after, IsReady, PerformsFrom, Performs, Grows}
+use Rattle.straight_compiler.specs.Performs.{shown, shown_after, Performs, Grows}
 use Rattle.straight_compiler.proofs.Setting.{follow_append}
 use Rattle.straight_compiler.proofs.Pushing.{Pushed, at_most_eight}
 

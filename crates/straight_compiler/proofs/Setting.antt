@@ -1,6 +1,6 @@
 -- Instructions that set a register.
-use Rattle.std.proofs.Common.{◌≡◌, ◌≢◌, ℕ, ℤ, pos, negsuc, ◌+◌, ◌-◌, ◌*◌, ◌/◌, ◌%◌, ◌^◌, ◌<◌, ◌≤◌, zero, suc, refl, sym, ap, ◌∙◌, subst, List, [], ◌∷◌, ◌++◌, length, set, get_or, Bool, true, false, eqb, cond, arith}
-use Rattle.std.proofs.lemmas.List.{set-set, get_or-set_same, length-set}
+use Rattle.std.proofs.Common.{◌≡◌, ℕ, ℤ, ◌*◌, ◌%◌, ◌^◌, ◌<◌, refl, ap, ◌∙◌, List, [], ◌∷◌, ◌++◌, length, set, false, eqb, arith}
+use Rattle.std.proofs.lemmas.List.{set-set, get_or-set_same}
 use Rattle.std.proofs.lemmas.Bool.Decides.{nat_tests}
 use Rattle.pan_base.specs.Events.{Replied, Behaviour}
 use Rattle.pan_base.specs.declared.operators.IOp.TheVariants as iop

@@ -1,7 +1,6 @@
 -- A source meets neither a fault nor the end of a stack.
-use Rattle.std.proofs.Common.{◌≡◌, ◌≢◌, ℕ, ◌+◌, ◌*◌, ◌%◌, ◌^◌, List, [], ◌∷◌, map, Bool, true, false, Option, Some, None}
-use Rattle.pan_base.specs.declared.events.Size.{Size}
-use Rattle.pan_base.specs.Events.{Asked, Store, Replied, Ending, Fault, Stack, Fails, fits, byte_count}
+use Rattle.std.proofs.Common.{◌≢◌, ℕ, ◌*◌, ◌%◌, ◌^◌, List, [], ◌∷◌, map, Bool, true, false, Option, Some, None}
+use Rattle.pan_base.specs.Events.{Asked, Store, Replied, Ending, Fault, Stack, fits, byte_count}
 use Rattle.pan_control.specs.World.{World}
 use Rattle.pan_control.specs.Control.{Outcome, Normal, Broken, Continued, Returned, Raised, Over, Meaning, and_then, in_turn, with_value, where_true, ask_of, ask_fit, left}
 use Rattle.pan_tree.specs.declared.spanned.Spanned.{Spanned}

@@ -1,5 +1,5 @@
 -- The machine acts the instructions of its code one after another.
-use Rattle.std.proofs.Common.{◌≡◌, ◌≢◌, ℕ, ◌+◌, ◌-◌, ◌*◌, ◌^◌, ◌<◌, ◌≤◌, zero, suc, zero-add, refl, sym, ap, ◌∙◌, subst, List, [], ◌∷◌, ◌++◌, length, take, drop, append_assoc, Bool, true, false, eqb, cond, Option, Some, None, arith, le-leb}
+use Rattle.std.proofs.Common.{◌≡◌, ℕ, ◌+◌, ◌-◌, ◌^◌, ◌<◌, suc, zero-add, refl, sym, ap, ◌∙◌, List, [], ◌∷◌, ◌++◌, length, take, drop, append_assoc, Bool, true, false, eqb, cond, Some, arith, le-leb}
 use Rattle.std.specs.Int.{w32, to_le_bytes, from_le_bytes}
 use Rattle.std.specs.Prelude.{nat_le}
 use Rattle.std.specs.List.{All}
@@ -17,9 +17,8 @@ use Rattle.riscv_isa.specs.declared.pending.Pending.TheVariants as pending
 use Rattle.riscv_isa.specs.declared.place.Place.{Place}
 use Rattle.riscv_isa.specs.declared.place.Place.TheVariants as place
 use Rattle.riscv_isa.specs.Table.{Instruction, ShRow}
-use Rattle.riscv_isa.specs.Decoded.{decoded}
 use Rattle.riscv_isa.specs.Regions.{place_of}
-use Rattle.riscv_isa.specs.Step.{State, Config, Runs, Waits, Over, with_reg, reg, plus, upper, act, act_some, decoded_some, fetched, step, load, store, foreign, request_of, loaded, replaced, resumed}
+use Rattle.riscv_isa.specs.Step.{State, Config, Runs, Waits, Over, with_reg, reg, plus, act, act_some, decoded_some, fetched, step, load, store, foreign, request_of, loaded, replaced, resumed}
 use Rattle.riscv_isa.specs.Results.{loads, stores}
 use Rattle.riscv_isa.specs.Machine.{continue, run, taken}
 use Rattle.riscv_isa.proofs.DecodedLaws.{reads}

@@ -1,18 +1,16 @@
 -- The instructions of a store to the shared window.
-use Rattle.std.proofs.Common.{◌≡◌, ◌≢◌, ℕ, ◌+◌, ◌-◌, ◌*◌, ◌%◌, ◌^◌, ◌<◌, ◌≤◌, pos, refl, sym, ap, ◌∙◌, subst, List, [], ◌∷◌, ◌++◌, append_assoc, length, set, get_or, Bool, true, false, cond, eqb, Option, Some, None, arith, le-leb, eq-eqb}
-use Rattle.std.specs.Prelude.{◌&&◌, nat_le, IsTrue, slice_index}
-use Rattle.std.specs.List.{All}
+use Rattle.std.proofs.Common.{◌≡◌, ◌≢◌, ℕ, ◌+◌, ◌%◌, ◌^◌, ◌<◌, ◌≤◌, pos, refl, sym, ap, ◌∙◌, subst, List, [], ◌∷◌, ◌++◌, append_assoc, length, set, get_or, Bool, true, false, eqb, Some, arith, le-leb, eq-eqb}
+use Rattle.std.specs.Prelude.{◌&&◌, nat_le}
 use Rattle.std.proofs.lemmas.List.{append-nil, length-append, length-set, get_or-set_same, get_or-set_other}
 use Rattle.std.proofs.lemmas.List.Elements.{All-append, All-push}
 use Rattle.std.proofs.lemmas.Bool.{leb-true, lt-leb, eqb-true, and_parts, and_from, and_right}
-use Rattle.std.proofs.lemmas.Bool.Decides.{nat_tests}
 use Rattle.std.proofs.lemmas.Int.{ints}
 use Rattle.pan_base.specs.declared.events.Size.{Size}
 use Rattle.pan_base.specs.declared.events.Size.TheVariants as size
 use Rattle.pan_base.specs.declared.operators.SOp.TheVariants as sop
-use Rattle.pan_base.specs.Events.{Asked, Store, Replied, Event, Behaviour, Ending, Asks, Stopped, Fails, fits, only, before, byte_count}
+use Rattle.pan_base.specs.Events.{Asked, Store, Replied, Event, Behaviour, Asks, Stopped, Fails, fits}
 use Rattle.pan_control.specs.World.{World}
-use Rattle.pan_control.specs.Control.{Outcome, Normal, Over, with_value, where_true, ask, ask_of, ask_fit}
+use Rattle.pan_control.specs.Control.{Outcome, Normal, where_true, ask, ask_of, ask_fit}
 use Rattle.pan_tree.specs.declared.spanned.Spanned.{Spanned}
 use Rattle.pan_tree.specs.declared.syntax.ExprKind.{ExprKind}
 use Rattle.pan_tree.specs.declared.syntax.StmtKind.TheVariants as stmt
@@ -25,10 +23,10 @@ use Rattle.riscv_isa.specs.declared.place.Region.TheVariants as region
 use Rattle.riscv_isa.specs.declared.place.Place.TheVariants as place
 use Rattle.riscv_isa.specs.declared.pending.Pending.TheVariants as pending
 use Rattle.riscv_isa.specs.Regions.{Memory, begin, bytes_of, is_within, is_in, place_of}
-use Rattle.riscv_isa.specs.Step.{State, Config, Runs, Waits, reg, plus, next, act, store, request_of}
+use Rattle.riscv_isa.specs.Step.{State, Config, Waits, reg, plus, next, act}
 use Rattle.riscv_isa.specs.Machine.{continue, taken}
 use Rattle.straight_compiler.specs.Follow.{IsInline, follow, Leads, SetsRegister}
-use Rattle.straight_compiler.specs.Performs.{shown, shown_after, IsReady, PerformsFrom, Performs, Grows}
+use Rattle.straight_compiler.specs.Performs.{shown, shown_after, Performs, Grows}
 use Rattle.straight_compiler.proofs.Setting.{follow_append}
 use Rattle.straight_compiler.proofs.Pushing.{Pushed, at_most_eight}
 

@@ -1,9 +1,8 @@
 -- One statement after another.
-use Rattle.std.proofs.Common.{◌≡◌, ◌≢◌, ℕ, ◌+◌, ◌*◌, ◌^◌, ◌<◌, ◌≤◌, refl, sym, ap, ◌∙◌, subst, List, [], ◌∷◌, ◌++◌, append_assoc, length, map, drop, get_or, arith}
-use Rattle.std.specs.List.{All}
+use Rattle.std.proofs.Common.{◌≡◌, ◌≢◌, ℕ, ◌+◌, ◌<◌, ◌≤◌, refl, sym, ap, ◌∙◌, subst, List, [], ◌∷◌, ◌++◌, append_assoc, length, map, drop, get_or, arith}
 use Rattle.std.proofs.lemmas.List.Elements.{All-nil, All-append}
 use Rattle.std.proofs.lemmas.List.{append-nil, length-append, drop_more, drop_all}
-use Rattle.pan_base.specs.Events.{Replied, Behaviour, Ending, Fails}
+use Rattle.pan_base.specs.Events.{Replied, Behaviour, Fails}
 use Rattle.pan_control.specs.World.{World}
 use Rattle.pan_control.specs.Control.{Outcome, Normal, Broken, Continued, Returned, Raised, Over, and_then, in_turn}
 use Rattle.pan_tree.specs.declared.spanned.Spanned.{Spanned}
@@ -13,7 +12,7 @@ use Rattle.pan_tree.specs.Meaning.{Does, run_kind}
 use Rattle.riscv_isa.specs.declared.instr.Instr.{Instr}
 use Rattle.riscv_isa.specs.Step.{State}
 use Rattle.straight_compiler.specs.Follow.{IsInline, follow}
-use Rattle.straight_compiler.specs.Performs.{shown, shown_after, IsReady, PerformsFrom, Performs, Grows}
+use Rattle.straight_compiler.specs.Performs.{shown, shown_after, Performs, Grows}
 use Rattle.straight_compiler.proofs.Setting.{follow_append}
 
 abbrev Stmt : Type 0

@@ -1,11 +1,11 @@
 -- The image of the instructions of main's body is faithful to the program.
-use Rattle.std.proofs.Common.{◌≡◌, ◌≢◌, ℕ, ◌+◌, ◌*◌, ◌%◌, ◌^◌, ◌<◌, ◌≤◌, refl, sym, ap, ◌∙◌, subst, List, [], ◌∷◌, ◌++◌, length, map, replicate, set, Option, Some, None, true, cond, arith, inl}
+use Rattle.std.proofs.Common.{◌≡◌, ◌≢◌, ℕ, ◌+◌, ◌*◌, ◌^◌, ◌≤◌, refl, sym, ap, ◌∙◌, subst, List, [], ◌∷◌, length, map, Option, Some, None, true, cond, arith, inl}
 use Rattle.std.specs.Prelude.{codes, find}
 use Rattle.std.specs.Str.{bytes_eq}
 use Rattle.std.proofs.lemmas.List.{length-set, length-replicate}
-use Rattle.pan_base.specs.Events.{Replied, Behaviour, Ending, Fails}
+use Rattle.pan_base.specs.Events.{Replied, Behaviour, Fails}
 use Rattle.pan_control.specs.Seen.{Seen}
-use Rattle.pan_control.specs.World.{World, entered}
+use Rattle.pan_control.specs.World.{entered}
 use Rattle.pan_control.specs.Control.{Outcome, Normal, Broken, Continued, Returned, Raised, Over, in_turn, left, with_value}
 use Rattle.pan_tree.specs.declared.spanned.Spanned.{Spanned}
 use Rattle.pan_tree.specs.declared.syntax.StmtKind.{StmtKind}
@@ -15,20 +15,16 @@ use Rattle.pan_tree.specs.Value.{Value, Scopes}
 use Rattle.pan_tree.specs.Weight.{cost, weight}
 use Rattle.pan_tree.specs.Meaning.{Does, run_kind, body_of, function, seen, start, source}
 use Rattle.riscv_isa.specs.declared.instr.Instr.{Instr}
-use Rattle.riscv_isa.specs.declared.place.Region.{Region}
 use Rattle.riscv_isa.specs.declared.place.Region.TheVariants as region
 use Rattle.riscv_isa.specs.Regions.{begin, bytes_of}
-use Rattle.riscv_isa.specs.Step.{State}
 use Rattle.riscv_isa.specs.Machine.{run, booted, machine, IsLawfulMemory, IsLawfulStack}
-use Rattle.riscv_isa.specs.Image.{layout, IsLawfulImage, ImageOf}
-use Rattle.pan_agree.specs.Agree.{Agree}
+use Rattle.riscv_isa.specs.Image.{layout}
 use Rattle.pan_agree.specs.Laws.{IsSourceLike, ForwardInTime}
 use Rattle.pan_agree.specs.Faithful.{Faithful}
 use Rattle.pan_agree.proofs.BothWays.{agrees}
 use Rattle.pan_agree.proofs.Longer.{steady}
-use Rattle.straight_compiler.specs.Follow.{follow}
 use Rattle.straight_compiler.specs.Spells.{Spells}
-use Rattle.straight_compiler.specs.Performs.{shown, shown_after, IsReady, Performs}
+use Rattle.straight_compiler.specs.Performs.{shown_after, IsReady, Performs}
 use Rattle.straight_compiler.proofs.Steps.{runs}
 use Rattle.straight_compiler.proofs.Spelling.{spelled_length, spelled_bytes}
 use Rattle.straight_compiler.proofs.Plain.{IsMain}

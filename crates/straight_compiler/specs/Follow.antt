@@ -1,5 +1,5 @@
 -- What a row of instructions does, one after another.
-use Rattle.std.specs.Prelude.{◌≡◌, ℕ, ◌<◌, ◌≤◌, nat_lt, ◌-◌, ◌^◌, if◌then◌else◌, List, [], ◌∷◌, length, slice_set}
+use Rattle.std.specs.Prelude.{◌≡◌, ℕ, ◌≤◌, nat_lt, ◌-◌, ◌^◌, if◌then◌else◌, List, [], ◌∷◌, length, slice_set}
 use Rattle.std.specs.List.{All}
 use Rattle.pan_base.specs.Events.{Replied, Behaviour}
 use Rattle.riscv_isa.specs.declared.instr.Instr.{Instr}

@@ -1,10 +1,10 @@
 -- When instructions do what statements of the source mean.
-use Rattle.std.specs.Prelude.{◌≡◌, ◌≢◌, ℕ, ◌+◌, ◌≤◌, List, ◌++◌, length}
+use Rattle.std.specs.Prelude.{◌≡◌, ◌≢◌, ◌+◌, ◌≤◌, List, ◌++◌, length}
 use Rattle.std.specs.List.{All}
 use Rattle.pan_base.specs.declared.events.Size.TheVariants.{B8}
 use Rattle.pan_base.specs.Events.{Replied, Behaviour, Fails}
 use Rattle.pan_control.specs.World.{World}
-use Rattle.pan_control.specs.Control.{Outcome, Normal, Broken, Continued, Returned, Raised, Over, left}
+use Rattle.pan_control.specs.Control.{Outcome, Normal, left}
 use Rattle.pan_tree.specs.Value.{Value, Scopes}
 use Rattle.pan_tree.specs.Meaning.{Does, seen}
 use Rattle.pan_tree.specs.declared.syntax.StmtKind.{StmtKind}

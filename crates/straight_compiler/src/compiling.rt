@@ -12,7 +12,7 @@ use pan_base::{Blob, NoMemory};
 use pan_tree::Program;
 use std::alloc::Global;
 
-/// The image of a straight-line program, with no bound.
+/// The image of a straight-line program, with no bound. `NoMemory` is the one error.
 pub fn compile(alloc: Global, program: &Program) -> Result<Blob, NoMemory>
     requires form { (stores : List (List ℕ × List ℕ)) × (sum : List ℕ) × IsStraight program.now stores sum }
     requires light { weight program.now ≤ 16384 }

@@ -15,6 +15,7 @@ fn split(word: u64) -> (u64, i32)
     ensures smaller { magnitude result.0 ≤ magnitude word / 2 ^ 12 + 1 }
 {
     let bits = (word % 4096) as i32;
+    // Towards negative infinity.
     let quotient = ShOp::Sar.apply(word, 12);
     if bits < 2048 {
         (quotient, bits)
@@ -23,10 +24,13 @@ fn split(word: u64) -> (u64, i32)
     }
 }
 
-/// Puts at the end of the code the instructions that set register `rd` to the word, at most 8.
+/// Puts at the end of the code the instructions that set register `rd` to the word, at most 8: ADDI from x0, or LUI and
+/// ADDI, or those of the word's quotient by 2^12 with SLLI and ADDI. The calls are at most 4 deep.
 pub fn push_constant(code: &mut List<Instr>, rd: u8, word: u64) -> Result<(), NoMemory>
-    requires { (0 < rd) × (rd < 32) }
-    ensures { OnOk result ((added : List Instr) × (code.new ≡ code.old ++ added) × SetsRegister rd word added) }
+    requires not_zero { 0 < rd }
+    requires register { rd < 32 }
+    ensures { OnOk result
+        ((added : List Instr) × (code.new ≡ code.old ++ added) × SetsRegister rd word added) }
 {
     let (quotient, imm) = split(word);
     if quotient == 0 {

@@ -14,21 +14,21 @@ use pan_tree::{Expr, Stmt, StmtKind};
 use riscv_isa::Instr;
 use std::alloc::Global;
 
-/// The registers of a store's address and value, t0 and t1.
+/// t0, with the address of a store.
 const ADDRESS: u8 = 5;
-
+/// t1, with the value of a store.
 const VALUE: u8 = 6;
-
-/// The registers of a call of the environment, a0, a1 and a7: the kind of end, the value that is returned, and the call.
+/// a0, with the kind of end at a call of the environment: 0 is a return.
 const END: u8 = 10;
-
+/// a1, with the value that is returned.
 const RETURNED: u8 = 11;
-
+/// a7, with the number of a call of the environment: 0 ends the program.
 const CALL: u8 = 17;
 
 /// Puts at the end of the code the instructions that store the 64 bits of a value to the shared window.
 fn push_store(code: &mut List<Instr>, address: &Expr, value: &Expr) -> Result<(), NoMemory>
-    ensures { OnOk result (Grows (run_kind (StmtKind.SharedStore B8 address.now value.now)) code.old code.new) }
+    ensures { OnOk result
+        (Grows (run_kind (StmtKind.SharedStore B8 address.now value.now)) code.old code.new) }
 {
     push_constant(code, ADDRESS, evaluate(address))?;
     push_constant(code, VALUE, evaluate(value))?;

@@ -11,7 +11,7 @@ pub fn image_of(alloc: Global, code: &[u8]) -> Result<Blob, NoMemory>
     requires { length code.now < 2 ^ 32 }
     ensures { IfOk result (λ image. image ≡ layout code.now [] None) }
 {
-    let mut image = Vec::new(alloc);
+    let mut image = Vec::with_capacity(alloc, 32 + code.len())?;
     image.extend_from_slice(b"PNK1")?;
     image.extend_from_slice(&(code.len() as u32).to_le_bytes())?;
     // The entry, and the number of names.

@@ -1,4 +1,4 @@
-use Rattle.std.proofs.Common.{subst, arith, sym}
+use Rattle.std.proofs.Common.{subst, arith}
 use Rattle.straight_compiler.specs.Spells.{Spells}
 use Rattle.straight_compiler.proofs.Plain.{main_is}
 use Rattle.straight_compiler.proofs.Whole.{small_code, compiled}

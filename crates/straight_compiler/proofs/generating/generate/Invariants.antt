@@ -1,4 +1,4 @@
-use Rattle.std.proofs.Common.{◌≡◌, ℕ, ◌*◌, ◌≤◌, List, ◌++◌, map, drop, length}
+use Rattle.std.proofs.Common.{◌*◌, ◌≤◌, List, ◌++◌, map, drop, length}
 use Rattle.pan_control.specs.Control.{in_turn}
 use Rattle.pan_tree.specs.Meaning.{run_kind}
 use Rattle.riscv_isa.specs.declared.instr.Instr.{Instr}

@@ -1,4 +1,4 @@
-use Rattle.std.proofs.Common.{arith, ◌≡◌, pos, to_z, of_z}
+use Rattle.std.proofs.Common.{arith}
 use Rattle.straight_compiler.proofs.Stores.{store_grows}
 use Rattle.straight_compiler.proofs.generating.push_store.Goals as goal
 

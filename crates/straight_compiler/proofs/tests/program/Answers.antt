@@ -1,5 +1,4 @@
-use Rattle.std.proofs.Common.{map, sum, arith}
-use Rattle.pan_tree.specs.Weight.{stmt_weight}
+use Rattle.std.proofs.Common.{arith}
 use Rattle.straight_compiler.proofs.Weights.{one_word}
 use Rattle.straight_compiler.proofs.tests.program.Goals as goal
 
