@@ -43,3 +43,6 @@ pub fn read(alloc: Global, bytes: &[u8]) -> Result<Option<Program>, NoMemory>
 pub fn one_weight()
     ensures { (bytes : List ℕ) (p q : Program) → IsSourceOf bytes p → IsSourceOf bytes q → weight p ≡ weight q }
 {}
+
+#[cfg(test)]
+mod tests;
