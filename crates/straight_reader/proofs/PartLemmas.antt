@@ -13,7 +13,7 @@ use Rattle.straight_form.specs.declared.token.Token.TheVariants.{Return, Store64
 use Rattle.straight_reader.specs.declared.stop.Stop.{Stop}
 use Rattle.straight_reader.specs.declared.stop.Stop.TheVariants.{NoMemory, Refused}
 use Rattle.straight_reader.specs.Scanned.{kinds, WhereRefused}
-use Rattle.straight_reader.specs.Parts.{Lacks, TermsAt, NoTerms, Terms, SumAt, Sum, OperandsAt, StoresAt, NoStores, Stores, ReturnAt, BodyAt, head_tokens, ProgramAt, IsStore, AreStores, IsReturn}
+use Rattle.straight_reader.specs.Parts.{StoreSums, ProgramSums, NoneAt, Reads, Lacks, NumberAt, TermsAt, NoTerms, Terms, SumAt, Sum, OperandsAt, StoresAt, NoStores, Stores, ReturnAt, BodyAt, head_tokens, ProgramAt, IsStore, AreStores, IsReturn}
 
 append_none : {A : Type 0} (xs : List A) → xs ++ [] ≡ xs
 append_none [] = refl
@@ -92,7 +92,7 @@ terms_more start left more rest terms term n plus number is word so =
     }
 
 -- no number comes after the sign
-pub terms_refused : (stop : Stop) (start left more : List Token) (terms : List (BinOp × Spanned ExprKind)) → left ≡ Plus ∷ more → WhereRefused stop ((n : ℕ) → Lacks (Number n) more) → TermsSo start left terms → WhereRefused stop ((ns : List ℕ) (after : List Token) → ¬ TermsAt start ns after)
+pub terms_refused : (stop : Stop) (start left more : List Token) (terms : List (BinOp × Spanned ExprKind)) → left ≡ Plus ∷ more → WhereRefused stop (NoneAt NumberAt more) → TermsSo start left terms → WhereRefused stop (NoneAt TermsAt start)
 terms_refused NoMemory start left more terms plus lacks so = tt
 terms_refused Refused start left more terms plus lacks so = λ ns after at. let ms = so.only ns after at in no_terms left after ms.0 plus ms.1
   where
@@ -101,7 +101,7 @@ terms_refused Refused start left more terms plus lacks so = λ ns after at. let 
     no_terms _ after _ plus (Terms ts rest _ n ns begins terms) = lacks n rest (tail_of (sym plus ∙ begins))
 
 -- no sign comes
-pub terms_done : (start left : List Token) (terms : List (BinOp × Spanned ExprKind)) → Lacks Plus left → TermsSo start left terms → (ns : List ℕ) × TermsAt start ns left × AreTerms terms ns
+pub terms_done : (start left : List Token) (terms : List (BinOp × Spanned ExprKind)) → Lacks Plus left → TermsSo start left terms → Reads TermsAt AreTerms start terms left
 terms_done start left terms lacks so = (so.numbers, subst (λ ns. TermsAt start ns left) (append_none so.numbers) (so.makes [] left (NoTerms left lacks)), so.are)
 
 -- ---- sums
@@ -128,7 +128,7 @@ one_sum _ a b _ ms (Sum ts rest _ n ns begins terms) other =
 -- ---- stores
 
 -- the operands of a store are read in one way
-one_operands : (ts a b : List Token) (p q : List ℕ × List ℕ) → OperandsAt ts p a → OperandsAt ts q b → (p ≡ q) × (a ≡ b)
+one_operands : (ts a b : List Token) (p q : StoreSums) → OperandsAt ts p a → OperandsAt ts q b → (p ≡ q) × (a ≡ b)
 one_operands ts a b p q one other =
     let addr = one_sum ts (Comma ∷ one.middle) (Comma ∷ other.middle) p.0 q.0 one.addr other.addr in
     let value = one_sum one.middle (Semicolon ∷ a) (Semicolon ∷ b) p.1 q.1 one.value (subst (λ ts. SumAt ts q.1 (Semicolon ∷ b)) (sym (tail_of addr.1)) other.value) in
@@ -142,31 +142,31 @@ sum_length : (ts after : List Token) (ns : List ℕ) → SumAt ts ns after → l
 sum_length _ _ _ (Sum ts rest after n ns begins terms) = omega (arith, ap length begins, terms_length rest after ns terms)
 
 -- a store takes tokens
-pub operands_length : (ts after : List Token) (p : List ℕ × List ℕ) → OperandsAt ts p after → length after < length ts
+pub operands_length : (ts after : List Token) (p : StoreSums) → OperandsAt ts p after → length after < length ts
 operands_length ts after p at = omega (arith, sum_length ts (Comma ∷ at.middle) p.0 at.addr, sum_length at.middle (Semicolon ∷ after) p.1 at.value)
 
 module _ (ts : List Token) (ns : List ℕ) (rest : List Token) (addr : SumAt ts ns rest) where
   -- the address that `OperandsAt` has is the one that was read
-  middle_after : (p : List ℕ × List ℕ) (after : List Token) (at : OperandsAt ts p after) → rest ≡ Comma ∷ at.middle
+  middle_after : (p : StoreSums) (after : List Token) (at : OperandsAt ts p after) → rest ≡ Comma ∷ at.middle
   middle_after p after at = (one_sum ts rest (Comma ∷ at.middle) ns p.0 addr at.addr).1
 
   -- no comma comes after the address
-  pub comma_refused : (stop : Stop) → WhereRefused stop (Lacks Comma rest) → WhereRefused stop ((p : List ℕ × List ℕ) (after : List Token) → ¬ OperandsAt ts p after)
+  pub comma_refused : (stop : Stop) → WhereRefused stop (Lacks Comma rest) → WhereRefused stop (NoneAt OperandsAt ts)
   comma_refused NoMemory lacks = tt
   comma_refused Refused lacks = λ p after at. lacks at.middle (middle_after p after at)
 
   module _ (middle : List Token) (comma : rest ≡ Comma ∷ middle) where
-    value_after : (p : List ℕ × List ℕ) (after : List Token) → OperandsAt ts p after → SumAt middle p.1 (Semicolon ∷ after)
+    value_after : (p : StoreSums) (after : List Token) → OperandsAt ts p after → SumAt middle p.1 (Semicolon ∷ after)
     value_after p after at = subst (λ ts. SumAt ts p.1 (Semicolon ∷ after)) (tail_of (sym (middle_after p after at) ∙ comma)) at.value
 
     -- no value comes after the comma
-    pub value_refused : (stop : Stop) → WhereRefused stop ((ms : List ℕ) (after : List Token) → ¬ SumAt middle ms after) → WhereRefused stop ((p : List ℕ × List ℕ) (after : List Token) → ¬ OperandsAt ts p after)
+    pub value_refused : (stop : Stop) → WhereRefused stop (NoneAt SumAt middle) → WhereRefused stop (NoneAt OperandsAt ts)
     value_refused NoMemory none = tt
     value_refused Refused none = λ p after at. none p.1 (Semicolon ∷ after) (value_after p after at)
 
     module _ (ms : List ℕ) (last : List Token) (value : SumAt middle ms last) where
       -- no semicolon comes after the value
-      pub operands_refused : (stop : Stop) → WhereRefused stop (Lacks Semicolon last) → WhereRefused stop ((p : List ℕ × List ℕ) (after : List Token) → ¬ OperandsAt ts p after)
+      pub operands_refused : (stop : Stop) → WhereRefused stop (Lacks Semicolon last) → WhereRefused stop (NoneAt OperandsAt ts)
       operands_refused NoMemory lacks = tt
       operands_refused Refused lacks = λ p after at. lacks after (one_sum middle last (Semicolon ∷ after) ms p.1 value (value_after p after at)).1
 
@@ -178,23 +178,23 @@ module _ (ts : List Token) (ns : List ℕ) (rest : List Token) (addr : SumAt ts 
       }
 
 -- what follows one store
-record StoresAfter (rest : List Token) (p : List ℕ × List ℕ) (ps : List (List ℕ × List ℕ)) (after : List Token) : Type 0 where
-  others : List (List ℕ × List ℕ)
+record StoresAfter (rest : List Token) (p : StoreSums) (ps : List StoreSums) (after : List Token) : Type 0 where
+  others : List StoreSums
   all : ps ≡ p ∷ others
   stores : StoresAt rest others after
 
-stores_after : (ts operands rest after : List Token) (p : List ℕ × List ℕ) (ps : List (List ℕ × List ℕ)) → ts ≡ Store64 ∷ operands → OperandsAt operands p rest → StoresAt ts ps after → StoresAfter rest p ps after
+stores_after : (ts operands rest after : List Token) (p : StoreSums) (ps : List StoreSums) → ts ≡ Store64 ∷ operands → OperandsAt operands p rest → StoresAt ts ps after → StoresAfter rest p ps after
 stores_after _ operands rest after p _ is at (NoStores ts lacks) = absurd (lacks operands is)
 stores_after _ operands rest after p _ is at (Stores ts others left _ q qs begins other stores) =
     let same = one_operands operands rest left p q at (subst (λ ts. OperandsAt ts q left) (tail_of (sym begins ∙ is)) other) in
     record { others = qs; all = ap (λ p. p ∷ qs) (sym same.0); stores = subst (λ rest. StoresAt rest qs after) (sym same.1) stores }
 
-stores_none : (ts after : List Token) (ps : List (List ℕ × List ℕ)) → Lacks Store64 ts → StoresAt ts ps after → (ps ≡ []) × (after ≡ ts)
+stores_none : (ts after : List Token) (ps : List StoreSums) → Lacks Store64 ts → StoresAt ts ps after → (ps ≡ []) × (after ≡ ts)
 stores_none _ after _ lacks (NoStores ts _) = (refl, refl)
 stores_none _ after _ lacks (Stores ts operands rest _ p ps begins at stores) = absurd (lacks operands begins)
 
 -- stores are read in one way
-one_stores : (ts a b : List Token) (ps qs : List (List ℕ × List ℕ)) → StoresAt ts ps a → StoresAt ts qs b → (ps ≡ qs) × (a ≡ b)
+one_stores : (ts a b : List Token) (ps qs : List StoreSums) → StoresAt ts ps a → StoresAt ts qs b → (ps ≡ qs) × (a ≡ b)
 one_stores _ a b _ qs (NoStores ts lacks) other = let none = stores_none ts b qs lacks other in (sym none.0, sym none.1)
 one_stores _ a b _ qs (Stores ts operands rest _ p ps begins at stores) other =
     let next = stores_after ts operands rest b p qs begins at other in
@@ -203,19 +203,19 @@ one_stores _ a b _ qs (Stores ts operands rest _ p ps begins at stores) other =
 
 -- the stores so far, and what is left
 pub record StoresSo (start left : List Token) (stmts : List (Spanned StmtKind)) : Type 0 where
-  pub stores : List (List ℕ × List ℕ)
+  pub stores : List StoreSums
   pub are : AreStores stmts stores
-  pub makes : (ps : List (List ℕ × List ℕ)) (after : List Token) → StoresAt left ps after → StoresAt start (stores ++ ps) after
-  pub only : (ps : List (List ℕ × List ℕ)) (after : List Token) → StoresAt start ps after → (qs : List (List ℕ × List ℕ)) × StoresAt left qs after
+  pub makes : (ps : List StoreSums) (after : List Token) → StoresAt left ps after → StoresAt start (stores ++ ps) after
+  pub only : (ps : List StoreSums) (after : List Token) → StoresAt start ps after → (qs : List StoreSums) × StoresAt left qs after
 
-are_stores_more : (stmts : List (Spanned StmtKind)) (stores : List (List ℕ × List ℕ)) (stmt : Spanned StmtKind) (p : List ℕ × List ℕ) → IsStore stmt p → AreStores stmts stores → AreStores (stmts ++ stmt ∷ []) (stores ++ p ∷ [])
+are_stores_more : (stmts : List (Spanned StmtKind)) (stores : List StoreSums) (stmt : Spanned StmtKind) (p : StoreSums) → IsStore stmt p → AreStores stmts stores → AreStores (stmts ++ stmt ∷ []) (stores ++ p ∷ [])
 are_stores_more [] [] stmt p is are = (is, tt)
 are_stores_more (s ∷ ss) (q ∷ qs) stmt p is are = (are.0, are_stores_more ss qs stmt p is are.1)
 are_stores_more [] (q ∷ qs) stmt p is are = absurd are
 are_stores_more (s ∷ ss) [] stmt p is are = absurd are
 
 -- one store more
-pub stores_more : (start left more rest : List Token) (stmts : List (Spanned StmtKind)) (stmt : Spanned StmtKind) (p : List ℕ × List ℕ) → left ≡ Store64 ∷ more → OperandsAt more p rest → IsStore stmt p → StoresSo start left stmts → StoresSo start rest (stmts ++ stmt ∷ [])
+pub stores_more : (start left more rest : List Token) (stmts : List (Spanned StmtKind)) (stmt : Spanned StmtKind) (p : StoreSums) → left ≡ Store64 ∷ more → OperandsAt more p rest → IsStore stmt p → StoresSo start left stmts → StoresSo start rest (stmts ++ stmt ∷ [])
 stores_more start left more rest stmts stmt p begins operands is so = record {
   stores = so.stores ++ p ∷ [];
   are = are_stores_more stmts so.stores stmt p is so.are;
@@ -227,23 +227,23 @@ stores_more start left more rest stmts stmt p begins operands is so = record {
 }
 
 -- no operands come after the word
-pub stores_refused : (stop : Stop) (start left more : List Token) (stmts : List (Spanned StmtKind)) → left ≡ Store64 ∷ more → WhereRefused stop ((p : List ℕ × List ℕ) (after : List Token) → ¬ OperandsAt more p after) → StoresSo start left stmts → WhereRefused stop ((ps : List (List ℕ × List ℕ)) (after : List Token) → ¬ StoresAt start ps after)
+pub stores_refused : (stop : Stop) (start left more : List Token) (stmts : List (Spanned StmtKind)) → left ≡ Store64 ∷ more → WhereRefused stop (NoneAt OperandsAt more) → StoresSo start left stmts → WhereRefused stop (NoneAt StoresAt start)
 stores_refused NoMemory start left more stmts begins none so = tt
 stores_refused Refused start left more stmts begins none so = λ ps after at. let qs = so.only ps after at in no_stores left after qs.0 begins qs.1
   where
-    no_stores : (left after : List Token) (qs : List (List ℕ × List ℕ)) → left ≡ Store64 ∷ more → StoresAt left qs after → ⊥
+    no_stores : (left after : List Token) (qs : List StoreSums) → left ≡ Store64 ∷ more → StoresAt left qs after → ⊥
     no_stores _ after _ is (NoStores ts lacks) = lacks more is
     no_stores _ after _ is (Stores ts operands rest _ p ps begins at stores) = none p rest (subst (λ ts. OperandsAt ts p rest) (tail_of (sym begins ∙ is)) at)
 
 -- no store comes
-pub stores_done : (start left : List Token) (stmts : List (Spanned StmtKind)) → Lacks Store64 left → StoresSo start left stmts → (ps : List (List ℕ × List ℕ)) × StoresAt start ps left × AreStores stmts ps
+pub stores_done : (start left : List Token) (stmts : List (Spanned StmtKind)) → Lacks Store64 left → StoresSo start left stmts → Reads StoresAt AreStores start stmts left
 stores_done start left stmts lacks so = (so.stores, subst (λ ps. StoresAt start ps left) (append_none so.stores) (so.makes [] left (NoStores left lacks)), so.are)
 
 -- ---- the return
 
 module _ (ts value : List Token) (begins : ts ≡ Return ∷ value) (ns : List ℕ) (last : List Token) (sum : SumAt value ns last) where
   -- no semicolon comes after the sum
-  pub return_refused : (stop : Stop) → WhereRefused stop (Lacks Semicolon last) → WhereRefused stop ((ms : List ℕ) (after : List Token) → ¬ ReturnAt ts ms after)
+  pub return_refused : (stop : Stop) → WhereRefused stop (Lacks Semicolon last) → WhereRefused stop (NoneAt ReturnAt ts)
   return_refused NoMemory lacks = tt
   return_refused Refused lacks = λ ms after at.
       let other : SumAt value ms (Semicolon ∷ after) = subst (λ ts. SumAt ts ms (Semicolon ∷ after)) (tail_of (sym at.begins ∙ begins)) at.sum in
@@ -259,28 +259,28 @@ one_return ts a b ns ms one other =
 
 -- ---- the body
 
-module _ (ts last : List Token) (stores : List (List ℕ × List ℕ)) (first : StoresAt ts stores last) where
-  return_after : (ps : List (List ℕ × List ℕ)) (ns : List ℕ) (after : List Token) → BodyAt ts ps ns after → ReturnAt last ns after
-  return_after ps ns after at = subst (λ ts. ReturnAt ts ns after) (sym (one_stores ts last at.last stores ps first at.first).1) at.returns
+module _ (ts last : List Token) (stores : List StoreSums) (first : StoresAt ts stores last) where
+  return_after : (f : ProgramSums) (after : List Token) → BodyAt ts f after → ReturnAt last f.1 after
+  return_after f after at = subst (λ ts. ReturnAt ts f.1 after) (sym (one_stores ts last at.last stores f.0 first at.first).1) at.returns
 
   -- no return comes after the stores
-  pub body_refused : (stop : Stop) → WhereRefused stop ((ns : List ℕ) (after : List Token) → ¬ ReturnAt last ns after) → WhereRefused stop ((ps : List (List ℕ × List ℕ)) (ns : List ℕ) (after : List Token) → ¬ BodyAt ts ps ns after)
+  pub body_refused : (stop : Stop) → WhereRefused stop (NoneAt ReturnAt last) → WhereRefused stop (NoneAt BodyAt ts)
   body_refused NoMemory none = tt
-  body_refused Refused none = λ ps ns after at. none ns after (return_after ps ns after at)
+  body_refused Refused none = λ f after at. none f.1 after (return_after f after at)
 
-one_body : (ts a b : List Token) (ps qs : List (List ℕ × List ℕ)) (ns ms : List ℕ) → BodyAt ts ps ns a → BodyAt ts qs ms b → (ps ≡ qs) × (ns ≡ ms) × (a ≡ b)
-one_body ts a b ps qs ns ms one other =
-    let stores = one_stores ts one.last other.last ps qs one.first other.first in
-    let returns = one_return one.last a b ns ms one.returns (return_after ts one.last ps one.first qs ms b other) in
-    (stores.0, returns.0, returns.1)
+one_body : (ts a b : List Token) (f g : ProgramSums) → BodyAt ts f a → BodyAt ts g b → (f ≡ g) × (a ≡ b)
+one_body ts a b f g one other =
+    let stores = one_stores ts one.last other.last f.0 g.0 one.first other.first in
+    let returns = one_return one.last a b f.1 g.1 one.returns (return_after ts one.last f.0 one.first g b other) in
+    (ap (λ ps. (ps, f.1)) stores.0 ∙ ap (λ ns. (g.0, ns)) returns.0, returns.1)
 
 -- a store before a body
-body_cons : (s : Spanned StmtKind) (ss : List (Spanned StmtKind)) (p : List ℕ × List ℕ) (ps : List (List ℕ × List ℕ)) (ns : List ℕ) → IsStore s p → IsBody ss ps ns → IsBody (s ∷ ss) (p ∷ ps) ns
+body_cons : (s : Spanned StmtKind) (ss : List (Spanned StmtKind)) (p : StoreSums) (ps : List StoreSums) (ns : List ℕ) → IsStore s p → IsBody ss ps ns → IsBody (s ∷ ss) (p ∷ ps) ns
 body_cons s [] p ps ns store body = absurd body
 body_cons s (t ∷ ts) p ps ns store body = (store.0, store.1, store.2, store.3, store.4, body)
 
 -- the stores and the return are the body
-pub body_is : (stmts : List (Spanned StmtKind)) (stores : List (List ℕ × List ℕ)) (last : Spanned StmtKind) (ns : List ℕ) → AreStores stmts stores → IsReturn last ns → IsBody (stmts ++ last ∷ []) stores ns
+pub body_is : (stmts : List (Spanned StmtKind)) (stores : List StoreSums) (last : Spanned StmtKind) (ns : List ℕ) → AreStores stmts stores → IsReturn last ns → IsBody (stmts ++ last ∷ []) stores ns
 body_is [] [] last ns are is = is
 body_is (s ∷ ss) (p ∷ ps) last ns are is = body_cons s (ss ++ last ∷ []) p ps ns are.0 (body_is ss ps last ns are.1 is)
 body_is [] (p ∷ ps) last ns are is = absurd are
@@ -289,39 +289,38 @@ body_is (s ∷ ss) [] last ns are is = absurd are
 -- ---- the program
 
 module _ (ts inner : List Token) (begins : ts ≡ head_tokens inner) where
-  body_after : (ps : List (List ℕ × List ℕ)) (ns : List ℕ) → ProgramAt ts ps ns → BodyAt inner ps ns (CloseBrace ∷ [])
-  body_after ps ns at =
+  body_after : (f : ProgramSums) → ProgramAt ts f → BodyAt inner f (CloseBrace ∷ [])
+  body_after f at =
       let same : head_tokens at.inner ≡ head_tokens inner = sym at.begins ∙ begins in
-      subst (λ ts. BodyAt ts ps ns (CloseBrace ∷ [])) (tail_of (tail_of (tail_of (tail_of (tail_of same))))) at.body
+      subst (λ ts. BodyAt ts f (CloseBrace ∷ [])) (tail_of (tail_of (tail_of (tail_of (tail_of same))))) at.body
 
   -- no body comes
-  pub inner_refused : (stop : Stop) → WhereRefused stop ((ps : List (List ℕ × List ℕ)) (ns : List ℕ) (after : List Token) → ¬ BodyAt inner ps ns after) → WhereRefused stop ((ps : List (List ℕ × List ℕ)) (ns : List ℕ) → ¬ ProgramAt ts ps ns)
+  pub inner_refused : (stop : Stop) → WhereRefused stop (NoneAt BodyAt inner) → WhereRefused stop ((f : ProgramSums) → ¬ ProgramAt ts f)
   inner_refused NoMemory none = tt
-  inner_refused Refused none = λ ps ns at. none ps ns (CloseBrace ∷ []) (body_after ps ns at)
+  inner_refused Refused none = λ f at. none f (CloseBrace ∷ []) (body_after f at)
 
-  module _ (ps : List (List ℕ × List ℕ)) (ns : List ℕ) (rest : List Token) (body : BodyAt inner ps ns rest) where
-    rest_after : (qs : List (List ℕ × List ℕ)) (ms : List ℕ) → ProgramAt ts qs ms → rest ≡ CloseBrace ∷ []
-    rest_after qs ms at = (one_body inner rest (CloseBrace ∷ []) ps qs ns ms body (body_after qs ms at)).2
+  module _ (f : ProgramSums) (rest : List Token) (body : BodyAt inner f rest) where
+    rest_after : (g : ProgramSums) → ProgramAt ts g → rest ≡ CloseBrace ∷ []
+    rest_after g at = (one_body inner rest (CloseBrace ∷ []) f g body (body_after g at)).1
 
     -- no brace comes
-    pub brace_refused : (stop : Stop) → WhereRefused stop (Lacks CloseBrace rest) → WhereRefused stop ((qs : List (List ℕ × List ℕ)) (ms : List ℕ) → ¬ ProgramAt ts qs ms)
+    pub brace_refused : (stop : Stop) → WhereRefused stop (Lacks CloseBrace rest) → WhereRefused stop ((g : ProgramSums) → ¬ ProgramAt ts g)
     brace_refused NoMemory lacks = tt
-    brace_refused Refused lacks = λ qs ms at. lacks [] (rest_after qs ms at)
+    brace_refused Refused lacks = λ g at. lacks [] (rest_after g at)
 
     module _ (more : List (Spanned Token)) (brace : rest ≡ CloseBrace ∷ kinds more) where
       -- more comes after the brace
-      pub more_refused : false ≡ (length more == 0) → (qs : List (List ℕ × List ℕ)) (ms : List ℕ) → ¬ ProgramAt ts qs ms
-      more_refused some qs ms at = kinds_some more some (tail_of (sym brace ∙ rest_after qs ms at))
+      pub more_refused : false ≡ (length more == 0) → (g : ProgramSums) → ¬ ProgramAt ts g
+      more_refused some g at = kinds_some more some (tail_of (sym brace ∙ rest_after g at))
 
-      pub program_at : true ≡ (length more == 0) → ProgramAt ts ps ns
+      pub program_at : true ≡ (length more == 0) → ProgramAt ts f
       program_at none = record {
         inner = inner;
         begins = begins;
-        body = subst (BodyAt inner ps ns) (brace ∙ ap (λ ts. CloseBrace ∷ ts) (kinds_none more none)) body;
+        body = subst (BodyAt inner f) (brace ∙ ap (λ ts. CloseBrace ∷ ts) (kinds_none more none)) body;
       }
 
 -- a program is read in one way
-pub one_program : (ts : List Token) (ps qs : List (List ℕ × List ℕ)) (ns ms : List ℕ) → ProgramAt ts ps ns → ProgramAt ts qs ms → (ps ≡ qs) × (ns ≡ ms)
-one_program ts ps qs ns ms one other =
-    let same = one_body one.inner (CloseBrace ∷ []) (CloseBrace ∷ []) ps qs ns ms one.body (body_after ts one.inner one.begins qs ms other) in
-    (same.0, same.1)
+pub one_program : (ts : List Token) (f g : ProgramSums) → ProgramAt ts f → ProgramAt ts g → f ≡ g
+one_program ts f g one other =
+    (one_body one.inner (CloseBrace ∷ []) (CloseBrace ∷ []) f g one.body (body_after ts one.inner one.begins g other)).0

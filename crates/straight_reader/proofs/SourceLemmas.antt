@@ -6,7 +6,7 @@ use Rattle.pan_tree.specs.declared.syntax.ExprKind.{ExprKind}
 use Rattle.pan_tree.specs.declared.syntax.StmtKind.{StmtKind}
 use Rattle.pan_tree.specs.declared.program.Program.{Program}
 use Rattle.straight_form.specs.Lexing.{Lexes}
-use Rattle.straight_form.specs.Form.{sum_tokens, store_tokens, form_tokens, IsSum, IsBody, IsStraight}
+use Rattle.straight_form.specs.Form.{sum_tokens, store_tokens, form_tokens, IsSum, IsBody}
 use Rattle.straight_form.specs.Source.{IsSourceOf}
 use Rattle.straight_form.specs.declared.token.Token.{Token}
 use Rattle.straight_form.specs.declared.token.Token.TheVariants.{Return, Store64, CloseBrace, Comma, Semicolon, Plus, Number}
@@ -15,7 +15,7 @@ use Rattle.straight_reader.specs.declared.stop.Stop.TheVariants.{NoMemory, Refus
 use Rattle.straight_reader.specs.Scanned.{WhereRefused}
 use Rattle.straight_reader.proofs.RowLemmas.{one_row}
 use Rattle.straight_reader.proofs.PartLemmas.{one_program}
-use Rattle.straight_reader.specs.Parts.{Lacks, TermsAt, NoTerms, Terms, SumAt, Sum, OperandsAt, StoresAt, NoStores, Stores, ReturnAt, head_tokens, ProgramAt}
+use Rattle.straight_reader.specs.Parts.{StoreSums, ProgramSums, IsProgramOf, Lacks, TermsAt, NoTerms, Terms, SumAt, Sum, OperandsAt, StoresAt, NoStores, Stores, ReturnAt, head_tokens, ProgramAt}
 
 -- ---- from the parts to the form
 
@@ -27,13 +27,13 @@ terms_tokens _ _ n _ (Terms ts rest after m ns begins terms) =
 sum_row : (ts after : List Token) (ns : List ℕ) → SumAt ts ns after → ts ≡ sum_tokens ns ++ after
 sum_row _ _ _ (Sum ts rest after n ns begins terms) = begins ∙ terms_tokens rest after n ns terms
 
-operands_row : (ts after : List Token) (p : List ℕ × List ℕ) → OperandsAt ts p after → Store64 ∷ ts ≡ store_tokens p ++ after
+operands_row : (ts after : List Token) (p : StoreSums) → OperandsAt ts p after → Store64 ∷ ts ≡ store_tokens p ++ after
 operands_row ts after p at =
     ap (λ ts. Store64 ∷ ts) (sum_row ts (Comma ∷ at.middle) p.0 at.addr
     ∙ ap (λ ts. sum_tokens p.0 ++ Comma ∷ ts) (sum_row at.middle (Semicolon ∷ after) p.1 at.value))
     ∙ simp append_assoc
 
-stores_row : (ts after : List Token) (ps : List (List ℕ × List ℕ)) → StoresAt ts ps after → ts ≡ flat_map store_tokens ps ++ after
+stores_row : (ts after : List Token) (ps : List StoreSums) → StoresAt ts ps after → ts ≡ flat_map store_tokens ps ++ after
 stores_row _ _ _ (NoStores ts lacks) = refl
 stores_row _ _ _ (Stores ts operands rest after p ps begins at stores) =
     begins ∙ operands_row operands rest p at ∙ ap (λ ts. store_tokens p ++ ts) (stores_row rest after ps stores) ∙ sym (append_assoc (store_tokens p) (flat_map store_tokens ps) after)
@@ -41,11 +41,11 @@ stores_row _ _ _ (Stores ts operands rest after p ps begins at stores) =
 return_row : (ts after : List Token) (ns : List ℕ) → ReturnAt ts ns after → ts ≡ Return ∷ sum_tokens ns ++ Semicolon ∷ after
 return_row ts after ns at = at.begins ∙ ap (λ ts. Return ∷ ts) (sum_row at.value (Semicolon ∷ after) ns at.sum)
 
-pub program_row : (ts : List Token) (ps : List (List ℕ × List ℕ)) (ns : List ℕ) → ProgramAt ts ps ns → ts ≡ form_tokens ps ns
-program_row ts ps ns at =
+program_row : (ts : List Token) (f : ProgramSums) → ProgramAt ts f → ts ≡ form_tokens f.0 f.1
+program_row ts f at =
     let body = at.body in
-    let inner = stores_row at.inner body.last ps body.first ∙ ap (λ ts. flat_map store_tokens ps ++ ts) (return_row body.last (CloseBrace ∷ []) ns body.returns) in
-    at.begins ∙ ap head_tokens (inner ∙ sym (append_assoc (flat_map store_tokens ps) (Return ∷ sum_tokens ns) (Semicolon ∷ CloseBrace ∷ [])))
+    let inner = stores_row at.inner body.last f.0 body.first ∙ ap (λ ts. flat_map store_tokens f.0 ++ ts) (return_row body.last (CloseBrace ∷ []) f.1 body.returns) in
+    at.begins ∙ ap head_tokens (inner ∙ sym (append_assoc (flat_map store_tokens f.0) (Return ∷ sum_tokens f.1) (Semicolon ∷ CloseBrace ∷ [])))
 
 -- ---- from the form to the parts
 
@@ -74,23 +74,23 @@ sum_form e (n ∷ ns) after is lacks =
     let form = terms_form n ns after lacks in
     Sum (sum_tokens (n ∷ ns) ++ after) form.rest after n ns form.begins form.terms
 
-operands_form : (a e : ExprKind) (p : List ℕ × List ℕ) (after : List Token) → IsSum a p.0 → IsSum e p.1 → OperandsAt (sum_tokens p.0 ++ Comma ∷ (sum_tokens p.1 ++ Semicolon ∷ after)) p after
+operands_form : (a e : ExprKind) (p : StoreSums) (after : List Token) → IsSum a p.0 → IsSum e p.1 → OperandsAt (sum_tokens p.0 ++ Comma ∷ (sum_tokens p.1 ++ Semicolon ∷ after)) p after
 operands_form a e p after addr value = record {
   middle = sum_tokens p.1 ++ Semicolon ∷ after;
   addr = sum_form a p.0 (Comma ∷ (sum_tokens p.1 ++ Semicolon ∷ after)) addr (λ more is. let no : Comma ≡ Plus = other_token is in cc);
   value = sum_form e p.1 (Semicolon ∷ after) value (λ more is. let no : Semicolon ≡ Plus = other_token is in cc);
 }
 
-store_row : (p : List ℕ × List ℕ) (more after : List Token) → (store_tokens p ++ more) ++ after ≡ Store64 ∷ (sum_tokens p.0 ++ Comma ∷ (sum_tokens p.1 ++ Semicolon ∷ (more ++ after)))
+store_row : (p : StoreSums) (more after : List Token) → (store_tokens p ++ more) ++ after ≡ Store64 ∷ (sum_tokens p.0 ++ Comma ∷ (sum_tokens p.1 ++ Semicolon ∷ (more ++ after)))
 store_row p more after = simp append_assoc
 
 -- the stores of a body, and the sum that it returns
-record BodyForm (ps : List (List ℕ × List ℕ)) (ns : List ℕ) (after : List Token) : Type 0 where
+record BodyForm (ps : List StoreSums) (ns : List ℕ) (after : List Token) : Type 0 where
   stores : StoresAt (flat_map store_tokens ps ++ after) ps after
   returned : ExprKind
   sum : IsSum returned ns
 
-body_form : (stmts : List (Spanned StmtKind)) (ps : List (List ℕ × List ℕ)) (ns : List ℕ) (after : List Token) → IsBody stmts ps ns → Lacks Store64 after → BodyForm ps ns after
+body_form : (stmts : List (Spanned StmtKind)) (ps : List StoreSums) (ns : List ℕ) (after : List Token) → IsBody stmts ps ns → Lacks Store64 after → BodyForm ps ns after
 body_form [] ps ns after is lacks = absurd is
 body_form (s ∷ []) [] ns after is lacks = record { stores = NoStores after lacks; returned = (is.0).kind; sum = is.2 }
 body_form (s ∷ t ∷ ts) [] ns after is lacks = absurd is
@@ -105,52 +105,41 @@ body_form (s ∷ t ∷ ts) (p ∷ ps) ns after is lacks =
       sum = others.sum;
     }
 
-pub program_form : (program : Program) (ts : List Token) (ps : List (List ℕ × List ℕ)) (ns : List ℕ) → IsStraight program ps ns → ts ≡ form_tokens ps ns → ProgramAt ts ps ns
-program_form program ts ps ns straight row =
-    let value = sum_tokens ns ++ Semicolon ∷ CloseBrace ∷ [] in
+program_form : (program : Program) (ts : List Token) (f : ProgramSums) → IsProgramOf program f → ts ≡ form_tokens f.0 f.1 → ProgramAt ts f
+program_form program ts f straight row =
+    let value = sum_tokens f.1 ++ Semicolon ∷ CloseBrace ∷ [] in
     let last = Return ∷ value in
-    let form = body_form ((straight.main).body).stmts ps ns last straight.body (λ more is. let no : Return ≡ Store64 = other_token is in cc) in
+    let form = body_form ((straight.main).body).stmts f.0 f.1 last straight.body (λ more is. let no : Return ≡ Store64 = other_token is in cc) in
     record {
-      inner = flat_map store_tokens ps ++ last;
-      begins = row ∙ ap head_tokens (append_assoc (flat_map store_tokens ps) (Return ∷ sum_tokens ns) (Semicolon ∷ CloseBrace ∷ []));
+      inner = flat_map store_tokens f.0 ++ last;
+      begins = row ∙ ap head_tokens (append_assoc (flat_map store_tokens f.0) (Return ∷ sum_tokens f.1) (Semicolon ∷ CloseBrace ∷ []));
       body = record {
         last = last;
         first = form.stores;
         returns = record {
           value = value;
           begins = refl;
-          sum = sum_form form.returned ns (Semicolon ∷ CloseBrace ∷ []) form.sum (λ more is. let no : Semicolon ≡ Plus = other_token is in cc);
+          sum = sum_form form.returned f.1 (Semicolon ∷ CloseBrace ∷ []) form.sum (λ more is. let no : Semicolon ≡ Plus = other_token is in cc);
         };
       };
     }
 
 -- ---- the source
 
-pub source_of : (bytes : List ℕ) (ts : List Token) (program : Program) (ps : List (List ℕ × List ℕ)) (ns : List ℕ) → Lexes bytes ts → ProgramAt ts ps ns → IsStraight program ps ns → IsSourceOf bytes program
-source_of bytes ts program ps ns row at tree = record { stores = ps; result = ns; tokens = ts; lexed = row; row = program_row ts ps ns at; tree = tree }
+pub source_of : (bytes : List ℕ) (ts : List Token) (program : Program) (f : ProgramSums) → Lexes bytes ts → ProgramAt ts f → IsProgramOf program f → IsSourceOf bytes program
+source_of bytes ts program f row at tree = record { stores = f.0; result = f.1; tokens = ts; lexed = row; row = program_row ts f at; tree = tree }
 
-pub parts_of : (bytes : List ℕ) (ts : List Token) (program : Program) → Lexes bytes ts → (source : IsSourceOf bytes program) → ProgramAt ts source.stores source.result
+parts_of : (bytes : List ℕ) (ts : List Token) (program : Program) → Lexes bytes ts → (source : IsSourceOf bytes program) → ProgramAt ts (source.stores, source.result)
 parts_of bytes ts program row source =
-    program_form program ts source.stores source.result source.tree (one_row bytes ts source.tokens row source.lexed ∙ source.row)
+    program_form program ts (source.stores, source.result) source.tree (one_row bytes ts source.tokens row source.lexed ∙ source.row)
 
 -- no program has these tokens
-pub source_refused : (stop : Stop) (bytes : List ℕ) (ts : List Token) → Lexes bytes ts → WhereRefused stop ((ps : List (List ℕ × List ℕ)) (ns : List ℕ) → ¬ ProgramAt ts ps ns) → WhereRefused stop ((program : Program) → ¬ IsSourceOf bytes program)
+pub source_refused : (stop : Stop) (bytes : List ℕ) (ts : List Token) → Lexes bytes ts → WhereRefused stop ((f : ProgramSums) → ¬ ProgramAt ts f) → WhereRefused stop ((program : Program) → ¬ IsSourceOf bytes program)
 source_refused NoMemory bytes ts row none = tt
-source_refused Refused bytes ts row none = λ program source. none source.stores source.result (parts_of bytes ts program row source)
+source_refused Refused bytes ts row none = λ program source. none (source.stores, source.result) (parts_of bytes ts program row source)
 
--- two programs of one source
-pub record SameForm (p q : Program) : Type 0 where
-  pub stores : List (List ℕ × List ℕ)
-  pub result : List ℕ
-  pub first : IsStraight p stores result
-  pub second : IsStraight q stores result
-
-pub same_form : (bytes : List ℕ) (p q : Program) → IsSourceOf bytes p → IsSourceOf bytes q → SameForm p q
-same_form bytes p q one other =
-    let same = one_program one.tokens one.stores other.stores one.result other.result (parts_of bytes one.tokens p one.lexed one) (parts_of bytes one.tokens q one.lexed other) in
-    record {
-      stores = one.stores;
-      result = one.result;
-      first = one.tree;
-      second = subst (λ ps. IsStraight q ps one.result) (sym same.0) (subst (λ ns. IsStraight q other.stores ns) (sym same.1) other.tree);
-    }
+-- two programs of one source have the same numbers
+pub same_sums : (bytes : List ℕ) (p q : Program) → IsSourceOf bytes p → IsSourceOf bytes q → (f : ProgramSums) × IsProgramOf p f × IsProgramOf q f
+same_sums bytes p q one other =
+    let same = one_program one.tokens (one.stores, one.result) (other.stores, other.result) (parts_of bytes one.tokens p one.lexed one) (parts_of bytes one.tokens q one.lexed other) in
+    ((one.stores, one.result), one.tree, subst (IsProgramOf q) (sym same) other.tree)

@@ -10,7 +10,8 @@ use Rattle.pan_tree.specs.Weight.{words_of, kind_weight, stmt_weight, function_w
 use Rattle.pan_tree.proofs.Weights.{words_word, kind_number, kind_chain}
 use Rattle.straight_form.specs.Form.{AreTerms, IsSum, IsBody, IsStraight}
 use Rattle.straight_form.specs.Source.{IsSourceOf}
-use Rattle.straight_reader.proofs.SourceLemmas.{same_form}
+use Rattle.straight_reader.proofs.SourceLemmas.{same_sums}
+use Rattle.straight_reader.specs.Parts.{StoreSums}
 
 sum_cons : {X : Type 0} (f : X → ℕ) (x : X) (xs : List X) → sum (map f (x ∷ xs)) ≡ f x + sum (map f xs)
 sum_cons f x xs = sum-map f (x ∷ xs) ∙ sum_by-cons f x xs ∙ ap (λ n. f x + n) (sym (sum-map f xs))
@@ -40,11 +41,11 @@ sum_weighs e (n ∷ m ∷ more) is =
 at_kind : (s : Spanned StmtKind) (k : StmtKind) → s.kind ≡ k → stmt_weight s ≡ stmt_weight (record { kind = k; span = s.span })
 at_kind s k is = ap (λ k. stmt_weight (record { kind = k; span = s.span })) is
 
-body_weight : List (List ℕ × List ℕ) → List ℕ → ℕ
+body_weight : List StoreSums → List ℕ → ℕ
 body_weight [] ns = 4 + sum_weight ns
 body_weight (p ∷ ps) ns = 4 + sum_weight p.0 + sum_weight p.1 + body_weight ps ns
 
-body_weighs : (stmts : List (Spanned StmtKind)) (ps : List (List ℕ × List ℕ)) (ns : List ℕ) → IsBody stmts ps ns → sum (map stmt_weight stmts) ≡ body_weight ps ns
+body_weighs : (stmts : List (Spanned StmtKind)) (ps : List StoreSums) (ns : List ℕ) → IsBody stmts ps ns → sum (map stmt_weight stmts) ≡ body_weight ps ns
 unfolding body_weight
 body_weighs [] ps ns is = absurd is
 body_weighs (s ∷ []) [] ns is = omega (arith, at_kind s _ is.1, sum_weighs (is.0).kind ns is.2)
@@ -53,7 +54,7 @@ body_weighs (s ∷ []) (p ∷ ps) ns is = absurd is.5
 body_weighs (s ∷ t ∷ ts) (p ∷ ps) ns is =
     omega (arith, sum_cons stmt_weight s (t ∷ ts), at_kind s _ is.2, sum_weighs (is.0).kind p.0 is.3, sum_weighs (is.1).kind p.1 is.4, body_weighs (t ∷ ts) ps ns is.5)
 
-program_weighs : (program : Program) (ps : List (List ℕ × List ℕ)) (ns : List ℕ) → IsStraight program ps ns → weight program ≡ 5 + body_weight ps ns
+program_weighs : (program : Program) (ps : List StoreSums) (ns : List ℕ) → IsStraight program ps ns → weight program ≡ 5 + body_weight ps ns
 program_weighs program ps ns straight =
     let main = straight.main in
     let one : weight program ≡ 0 + function_weight main = ap (λ fs. sum (map function_weight fs)) straight.functions in
@@ -63,5 +64,5 @@ program_weighs program ps ns straight =
 
 pub same_weight : (bytes : List ℕ) (p q : Program) → IsSourceOf bytes p → IsSourceOf bytes q → weight p ≡ weight q
 same_weight bytes p q one other =
-    let form = same_form bytes p q one other in
-    program_weighs p form.stores form.result form.first ∙ sym (program_weighs q form.stores form.result form.second)
+    let same = same_sums bytes p q one other in
+    program_weighs p (same.0).0 (same.0).1 same.1 ∙ sym (program_weighs q (same.0).0 (same.0).1 same.2)

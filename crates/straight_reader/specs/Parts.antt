@@ -1,17 +1,31 @@
 -- The parts of a row of tokens: what each begins with, the numbers in it, and the tokens after it.
-use Rattle.std.specs.Prelude.{◌≡◌, ◌≢◌, ℕ, List, [], ◌∷◌}
+use Rattle.std.specs.Prelude.{◌≡◌, ◌≢◌, ℕ, ◌^◌, ◌<◌, List, [], ◌∷◌}
 use Rattle.pan_base.specs.declared.events.Size.TheVariants.{B8}
 use Rattle.pan_tree.specs.declared.spanned.Spanned.{Spanned}
 use Rattle.pan_tree.specs.declared.syntax.ExprKind.{ExprKind}
+use Rattle.pan_tree.specs.declared.syntax.ExprKind.TheVariants as expr
 use Rattle.pan_tree.specs.declared.syntax.StmtKind.{StmtKind}
 use Rattle.pan_tree.specs.declared.syntax.StmtKind.TheVariants as stmt
-use Rattle.straight_form.specs.Form.{IsSum}
+use Rattle.pan_tree.specs.declared.program.Program.{Program}
+use Rattle.straight_form.specs.Form.{IsSum, IsBody, IsStraight}
 use Rattle.straight_form.specs.declared.token.Token.{Token}
 use Rattle.straight_form.specs.declared.token.Token.TheVariants.{Fun, Main, Return, Store64, OpenParen, CloseParen, OpenBrace, CloseBrace, Comma, Semicolon, Plus, Number}
+
+-- the numbers of a store: those that make its address, and those that make its value
+abbrev pub StoreSums : Type 0
+StoreSums = List ℕ × List ℕ
+
+-- the numbers of the stores, and those that make the result
+abbrev pub ProgramSums : Type 0
+ProgramSums = List StoreSums × List ℕ
 
 -- the token doesn't come first
 abbrev pub Lacks : Token → List Token → Type 0
 Lacks t ts = (more : List Token) → ts ≢ t ∷ more
+
+-- NUMBER
+abbrev pub NumberAt : List Token → ℕ → List Token → Type 0
+NumberAt ts n after = ts ≡ Number n ∷ after
 
 -- {'+' NUMBER}, as often as it goes
 pub data TermsAt : List Token → List ℕ → List Token → Type 0 where
@@ -23,15 +37,15 @@ pub data SumAt : List Token → List ℕ → List Token → Type 0 where
   Sum : (ts rest after : List Token) (n : ℕ) (ns : List ℕ) → ts ≡ Number n ∷ rest → TermsAt rest ns after → SumAt ts (n ∷ ns) after
 
 -- e , e ;
-pub record OperandsAt (ts : List Token) (p : List ℕ × List ℕ) (after : List Token) : Type 0 where
+pub record OperandsAt (ts : List Token) (p : StoreSums) (after : List Token) : Type 0 where
   pub middle : List Token
   pub addr : SumAt ts p.0 (Comma ∷ middle)
   pub value : SumAt middle p.1 (Semicolon ∷ after)
 
 -- {!st64 e , e ;}, as often as it goes
-pub data StoresAt : List Token → List (List ℕ × List ℕ) → List Token → Type 0 where
+pub data StoresAt : List Token → List StoreSums → List Token → Type 0 where
   NoStores : (ts : List Token) → Lacks Store64 ts → StoresAt ts [] ts
-  Stores : (ts operands rest after : List Token) (p : List ℕ × List ℕ) (ps : List (List ℕ × List ℕ)) → ts ≡ Store64 ∷ operands → OperandsAt operands p rest → StoresAt rest ps after → StoresAt ts (p ∷ ps) after
+  Stores : (ts operands rest after : List Token) (p : StoreSums) (ps : List StoreSums) → ts ≡ Store64 ∷ operands → OperandsAt operands p rest → StoresAt rest ps after → StoresAt ts (p ∷ ps) after
 
 -- return e ;
 pub record ReturnAt (ts : List Token) (ns : List ℕ) (after : List Token) : Type 0 where
@@ -40,28 +54,46 @@ pub record ReturnAt (ts : List Token) (ns : List ℕ) (after : List Token) : Typ
   pub sum : SumAt value ns (Semicolon ∷ after)
 
 -- the stores, and the return
-pub record BodyAt (ts : List Token) (stores : List (List ℕ × List ℕ)) (result : List ℕ) (after : List Token) : Type 0 where
+pub record BodyAt (ts : List Token) (f : ProgramSums) (after : List Token) : Type 0 where
   pub last : List Token
-  pub first : StoresAt ts stores last
-  pub returns : ReturnAt last result after
+  pub first : StoresAt ts f.0 last
+  pub returns : ReturnAt last f.1 after
 
 -- fun main ( ) {, and these tokens after it
 abbrev pub head_tokens : List Token → List Token
 head_tokens more = Fun ∷ Main ∷ OpenParen ∷ CloseParen ∷ OpenBrace ∷ more
 
 -- fun main ( ) { body }, and nothing more
-pub record ProgramAt (ts : List Token) (stores : List (List ℕ × List ℕ)) (result : List ℕ) : Type 0 where
+pub record ProgramAt (ts : List Token) (f : ProgramSums) : Type 0 where
   pub inner : List Token
   pub begins : ts ≡ head_tokens inner
-  pub body : BodyAt inner stores result (CloseBrace ∷ [])
+  pub body : BodyAt inner f (CloseBrace ∷ [])
+
+-- no such part begins there
+abbrev pub NoneAt : {A : Type 0} → (List Token → A → List Token → Type 0) → List Token → Type 0
+NoneAt {A} Part ts = (x : A) (after : List Token) → ¬ Part ts x after
+
+-- ---- trees
+
+-- such a part begins there, and this is its tree
+abbrev pub Reads : {A T : Type 0} → (List Token → A → List Token → Type 0) → (T → A → Type 0) → List Token → T → List Token → Type 0
+Reads {A} Part Is ts tree after = (x : A) × Part ts x after × Is tree x
+
+-- the expression is this word
+abbrev pub IsNumber : Spanned ExprKind → ℕ → Type 0
+IsNumber e n = (e.kind ≡ expr.Number n) × (n < 2 ^ 64)
+
+-- the expression is the sum of these numbers
+abbrev pub IsSumOf : Spanned ExprKind → List ℕ → Type 0
+IsSumOf e ns = IsSum e.kind ns
 
 -- the statement stores these sums
-abbrev pub IsStore : Spanned StmtKind → List ℕ × List ℕ → Type 0
+abbrev pub IsStore : Spanned StmtKind → StoreSums → Type 0
 IsStore s p =
     (a : Spanned ExprKind) × (e : Spanned ExprKind) × (s.kind ≡ stmt.SharedStore B8 a e) × IsSum a.kind p.0 × IsSum e.kind p.1
 
 -- the statements store these sums
-abbrev pub AreStores : List (Spanned StmtKind) → List (List ℕ × List ℕ) → Type 0
+abbrev pub AreStores : List (Spanned StmtKind) → List StoreSums → Type 0
 AreStores [] [] = Unit {0}
 AreStores (s ∷ ss) (p ∷ ps) = IsStore s p × AreStores ss ps
 AreStores [] (p ∷ ps) = ⊥
@@ -70,3 +102,11 @@ AreStores (s ∷ ss) [] = ⊥
 -- the statement returns this sum
 abbrev pub IsReturn : Spanned StmtKind → List ℕ → Type 0
 IsReturn s ns = (e : Spanned ExprKind) × (s.kind ≡ stmt.Return e) × IsSum e.kind ns
+
+-- the statements store and return these sums
+abbrev pub IsBodyOf : List (Spanned StmtKind) → ProgramSums → Type 0
+IsBodyOf stmts f = IsBody stmts f.0 f.1
+
+-- the program stores and returns these sums
+abbrev pub IsProgramOf : Program → ProgramSums → Type 0
+IsProgramOf program f = IsStraight program f.0 f.1

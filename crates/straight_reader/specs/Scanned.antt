@@ -1,5 +1,5 @@
 -- The row of tokens of a text.
-use Rattle.std.specs.Prelude.{ℕ, List, drop, map}
+use Rattle.std.specs.Prelude.{ℕ, List, drop, map, Result, IfErr}
 use Rattle.std.specs.List.{prefix_len}
 use Rattle.pan_tree.specs.declared.spanned.Spanned.{Spanned}
 use Rattle.straight_form.specs.Lexing.{is_space}
@@ -19,3 +19,7 @@ kinds = map (λ t. t.kind)
 abbrev pub WhereRefused : Stop → Type 0 → Type 0
 WhereRefused NoMemory P = Unit {0}
 WhereRefused Refused P = P
+
+-- where the reading is refused, the fact holds
+abbrev pub OnRefusal : {A : Type 0} → Result A Stop → Type 0 → Type 0
+OnRefusal result P = IfErr result (λ stop. WhereRefused stop P)

@@ -3,13 +3,12 @@
 //! Each function reads one part of the form (`specs/Parts.antt`) from the tokens that are left, and answers it and the
 //! tokens after it. It refuses only where no such part begins there.
 
-ghost use Rattle.std.specs.Prelude.{◌≡◌, ◌≢◌, ℕ, List, [], ◌∷◌, ◌^◌, ◌<◌, IfOk, IfErr, IfSome, IfNone};
+ghost use Rattle.std.specs.Prelude.{◌≡◌, ◌≢◌, List, [], ◌∷◌, IfOk, IfSome, IfNone};
 ghost use Rattle.pan_tree.specs.declared.syntax.ExprKind.TheVariants as expr;
-ghost use Rattle.straight_form.specs.Form.{IsSum, AreTerms, IsBody, IsStraight};
+ghost use Rattle.straight_form.specs.Form.{AreTerms};
 ghost use Rattle.straight_form.specs.declared.token.Token.{Token};
-ghost use Rattle.straight_form.specs.declared.token.Token.TheVariants as token;
-ghost use Rattle.straight_reader.specs.Scanned.{kinds, WhereRefused};
-ghost use Rattle.straight_reader.specs.Parts.{Lacks, TermsAt, SumAt, OperandsAt, StoresAt, ReturnAt, BodyAt, head_tokens, ProgramAt, IsStore, AreStores, IsReturn};
+ghost use Rattle.straight_reader.specs.Scanned.{kinds, OnRefusal};
+ghost use Rattle.straight_reader.specs.Parts.{ProgramSums, Lacks, NumberAt, TermsAt, SumAt, OperandsAt, StoresAt, ReturnAt, BodyAt, head_tokens, ProgramAt, NoneAt, Reads, IsNumber, IsSumOf, IsStore, AreStores, IsReturn, IsBodyOf, IsProgramOf};
 
 use crate::scanning::Lexeme;
 use crate::stop::Stop;
@@ -45,7 +44,7 @@ fn find(rest: &[Lexeme], token: Token) -> Option<(Span, &[Lexeme])>
 /// The place of this token, and what follows it.
 fn expect(rest: &[Lexeme], token: Token) -> Result<(Span, &[Lexeme]), Stop>
     ensures ok { IfOk result (λ r. kinds rest.now ≡ token ∷ kinds r.1.now) }
-    ensures refused { IfErr result (λ stop. WhereRefused stop (Lacks token (kinds rest.now))) }
+    ensures refused { OnRefusal result (Lacks token (kinds rest.now)) }
 {
     match find(rest, token) {
         Some((span, more)) => Ok((span, more)),
@@ -55,8 +54,7 @@ fn expect(rest: &[Lexeme], token: Token) -> Result<(Span, &[Lexeme]), Stop>
 
 /// A number as an expression.
 fn literal(word: u64, span: Span) -> Expr
-    ensures kind { result.kind ≡ expr.Number word }
-    ensures word { word < 2 ^ 64 }
+    ensures { IsNumber result word }
 {
     Spanned {
         kind: ExprKind::Number(word),
@@ -66,8 +64,8 @@ fn literal(word: u64, span: Span) -> Expr
 
 /// NUMBER
 fn number(rest: &[Lexeme]) -> Result<(Expr, &[Lexeme]), Stop>
-    ensures ok { IfOk result (λ r. (n : ℕ) × (kinds rest.now ≡ token.Number n ∷ kinds r.1.now) × (r.0.kind ≡ expr.Number n) × (n < 2 ^ 64)) }
-    ensures refused { IfErr result (λ stop. WhereRefused stop ((n : ℕ) → Lacks (token.Number n) (kinds rest.now))) }
+    ensures ok { IfOk result (λ r. Reads NumberAt IsNumber (kinds rest.now) r.0 (kinds r.1.now)) }
+    ensures refused { OnRefusal result (NoneAt NumberAt (kinds rest.now)) }
 {
     let Some((kind, span, more)) = first(rest) else {
         return Err(Stop::Refused);
@@ -80,8 +78,8 @@ fn number(rest: &[Lexeme]) -> Result<(Expr, &[Lexeme]), Stop>
 
 /// {'+' NUMBER}
 fn terms(alloc: Global, rest: &[Lexeme]) -> Result<(List<(BinOp, Expr)>, &[Lexeme]), Stop>
-    ensures ok { IfOk result (λ r. (ns : List ℕ) × TermsAt (kinds rest.now) ns (kinds r.1.now) × AreTerms r.0 ns) }
-    ensures refused { IfErr result (λ stop. WhereRefused stop ((ns : List ℕ) (after : List Token) → ¬ TermsAt (kinds rest.now) ns after)) }
+    ensures ok { IfOk result (λ r. Reads TermsAt AreTerms (kinds rest.now) r.0 (kinds r.1.now)) }
+    ensures refused { OnRefusal result (NoneAt TermsAt (kinds rest.now)) }
 {
     let mut terms = List::new(alloc);
     let mut left = rest;
@@ -114,8 +112,8 @@ fn chain(alloc: Global, first: Expr, terms: List<(BinOp, Expr)>) -> Result<Expr,
 
 /// NUMBER {'+' NUMBER}
 fn sum(alloc: Global, rest: &[Lexeme]) -> Result<(Expr, &[Lexeme]), Stop>
-    ensures ok { IfOk result (λ r. (ns : List ℕ) × SumAt (kinds rest.now) ns (kinds r.1.now) × IsSum r.0.kind ns) }
-    ensures refused { IfErr result (λ stop. WhereRefused stop ((ns : List ℕ) (after : List Token) → ¬ SumAt (kinds rest.now) ns after)) }
+    ensures ok { IfOk result (λ r. Reads SumAt IsSumOf (kinds rest.now) r.0 (kinds r.1.now)) }
+    ensures refused { OnRefusal result (NoneAt SumAt (kinds rest.now)) }
 {
     let (first, rest) = number(rest)?;
     let (terms, rest) = terms(alloc, rest)?;
@@ -125,8 +123,8 @@ fn sum(alloc: Global, rest: &[Lexeme]) -> Result<(Expr, &[Lexeme]), Stop>
 
 /// `e , e ;` after `!st64`, which begins at `start`.
 fn store(alloc: Global, start: u32, rest: &[Lexeme]) -> Result<(Stmt, &[Lexeme]), Stop>
-    ensures ok { IfOk result (λ r. (p : List ℕ × List ℕ) × OperandsAt (kinds rest.now) p (kinds r.1.now) × IsStore r.0 p) }
-    ensures refused { IfErr result (λ stop. WhereRefused stop ((p : List ℕ × List ℕ) (after : List Token) → ¬ OperandsAt (kinds rest.now) p after)) }
+    ensures ok { IfOk result (λ r. Reads OperandsAt IsStore (kinds rest.now) r.0 (kinds r.1.now)) }
+    ensures refused { OnRefusal result (NoneAt OperandsAt (kinds rest.now)) }
 {
     let (addr, rest) = sum(alloc, rest)?;
     let (_, rest) = expect(rest, Token::Comma)?;
@@ -144,8 +142,8 @@ fn store(alloc: Global, start: u32, rest: &[Lexeme]) -> Result<(Stmt, &[Lexeme])
 
 /// {!st64 e , e ;}
 fn stores(alloc: Global, rest: &[Lexeme]) -> Result<(List<Stmt>, &[Lexeme]), Stop>
-    ensures ok { IfOk result (λ r. (ps : List (List ℕ × List ℕ)) × StoresAt (kinds rest.now) ps (kinds r.1.now) × AreStores r.0 ps) }
-    ensures refused { IfErr result (λ stop. WhereRefused stop ((ps : List (List ℕ × List ℕ)) (after : List Token) → ¬ StoresAt (kinds rest.now) ps after)) }
+    ensures ok { IfOk result (λ r. Reads StoresAt AreStores (kinds rest.now) r.0 (kinds r.1.now)) }
+    ensures refused { OnRefusal result (NoneAt StoresAt (kinds rest.now)) }
 {
     let mut stmts = List::new(alloc);
     let mut left = rest;
@@ -159,8 +157,8 @@ fn stores(alloc: Global, rest: &[Lexeme]) -> Result<(List<Stmt>, &[Lexeme]), Sto
 
 /// `return e ;`
 fn return_stmt(alloc: Global, rest: &[Lexeme]) -> Result<(Stmt, &[Lexeme]), Stop>
-    ensures ok { IfOk result (λ r. (ns : List ℕ) × ReturnAt (kinds rest.now) ns (kinds r.1.now) × IsReturn r.0 ns) }
-    ensures refused { IfErr result (λ stop. WhereRefused stop ((ns : List ℕ) (after : List Token) → ¬ ReturnAt (kinds rest.now) ns after)) }
+    ensures ok { IfOk result (λ r. Reads ReturnAt IsReturn (kinds rest.now) r.0 (kinds r.1.now)) }
+    ensures refused { OnRefusal result (NoneAt ReturnAt (kinds rest.now)) }
 {
     let (first, rest) = expect(rest, Token::Return)?;
     let (value, rest) = sum(alloc, rest)?;
@@ -177,8 +175,8 @@ fn return_stmt(alloc: Global, rest: &[Lexeme]) -> Result<(Stmt, &[Lexeme]), Stop
 
 /// The stores and the return.
 fn body(alloc: Global, rest: &[Lexeme]) -> Result<(List<Stmt>, &[Lexeme]), Stop>
-    ensures ok { IfOk result (λ r. (stores : List (List ℕ × List ℕ)) × (ns : List ℕ) × BodyAt (kinds rest.now) stores ns (kinds r.1.now) × IsBody r.0 stores ns) }
-    ensures refused { IfErr result (λ stop. WhereRefused stop ((stores : List (List ℕ × List ℕ)) (ns : List ℕ) (after : List Token) → ¬ BodyAt (kinds rest.now) stores ns after)) }
+    ensures ok { IfOk result (λ r. Reads BodyAt IsBodyOf (kinds rest.now) r.0 (kinds r.1.now)) }
+    ensures refused { OnRefusal result (NoneAt BodyAt (kinds rest.now)) }
 {
     let (mut stmts, rest) = stores(alloc, rest)?;
     let (last, rest) = return_stmt(alloc, rest)?;
@@ -189,7 +187,7 @@ fn body(alloc: Global, rest: &[Lexeme]) -> Result<(List<Stmt>, &[Lexeme]), Stop>
 /// `fun main ( ) {`, and the place of `fun`.
 fn head(rest: &[Lexeme]) -> Result<(Span, &[Lexeme]), Stop>
     ensures ok { IfOk result (λ r. kinds rest.now ≡ head_tokens (kinds r.1.now)) }
-    ensures refused { IfErr result (λ stop. WhereRefused stop ((more : List Token) → kinds rest.now ≢ head_tokens more)) }
+    ensures refused { OnRefusal result ((more : List Token) → kinds rest.now ≢ head_tokens more) }
 {
     let (first, rest) = expect(rest, Token::Fun)?;
     let (_, rest) = expect(rest, Token::Main)?;
@@ -201,7 +199,7 @@ fn head(rest: &[Lexeme]) -> Result<(Span, &[Lexeme]), Stop>
 
 /// The program whose main function has these statements.
 fn program_of(alloc: Global, stmts: List<Stmt>, span: Span) -> Result<Program, NoMemory>
-    ensures { IfOk result (λ program. (stores : List (List ℕ × List ℕ)) (ns : List ℕ) → IsBody stmts stores ns → IsStraight program stores ns) }
+    ensures { IfOk result (λ program. (f : ProgramSums) → IsBodyOf stmts f → IsProgramOf program f) }
 {
     let main = Function {
         name: Text::from_str(alloc, "main")?,
@@ -218,8 +216,8 @@ fn program_of(alloc: Global, stmts: List<Stmt>, span: Span) -> Result<Program, N
 
 /// The program that all of the tokens are.
 pub fn parse(alloc: Global, lexemes: &[Lexeme]) -> Result<Program, Stop>
-    ensures ok { IfOk result (λ program. (stores : List (List ℕ × List ℕ)) × (ns : List ℕ) × ProgramAt (kinds lexemes.now) stores ns × IsStraight program stores ns) }
-    ensures refused { IfErr result (λ stop. WhereRefused stop ((stores : List (List ℕ × List ℕ)) (ns : List ℕ) → ¬ ProgramAt (kinds lexemes.now) stores ns)) }
+    ensures ok { IfOk result (λ program. (f : ProgramSums) × ProgramAt (kinds lexemes.now) f × IsProgramOf program f) }
+    ensures refused { OnRefusal result ((f : ProgramSums) → ¬ ProgramAt (kinds lexemes.now) f) }
 {
     let (first, rest) = head(lexemes)?;
     let (stmts, rest) = body(alloc, rest)?;

@@ -1,10 +1,10 @@
 //! From the bytes of a source to its tree.
 
-ghost use Rattle.std.specs.Prelude.{◌≡◌, ℕ, List, ◌≤◌, length, IfOk, IfErr, IfSome, IfNone};
+ghost use Rattle.std.specs.Prelude.{◌≡◌, ℕ, List, ◌≤◌, length, IfOk, IfSome, IfNone};
 ghost use Rattle.pan_tree.specs.Weight.{weight};
 ghost use Rattle.pan_tree.specs.declared.program.Program.{Program};
 ghost use Rattle.straight_form.specs.Source.{IsSourceOf};
-ghost use Rattle.straight_reader.specs.Scanned.{WhereRefused};
+ghost use Rattle.straight_reader.specs.Scanned.{OnRefusal};
 
 use crate::parsing::parse;
 use crate::scanning::scan;
@@ -17,7 +17,7 @@ use std::alloc::Global;
 fn tree(alloc: Global, bytes: &[u8]) -> Result<Program, Stop>
     requires { length bytes.now ≤ 1048576 }
     ensures ok { IfOk result (λ program. IsSourceOf bytes.now program) }
-    ensures refused { IfErr result (λ stop. WhereRefused stop ((program : Program) → ¬ IsSourceOf bytes.now program)) }
+    ensures refused { OnRefusal result ((program : Program) → ¬ IsSourceOf bytes.now program) }
 {
     let lexemes = scan(alloc, bytes)?;
     let program = parse(alloc, lexemes.as_slice())?;
@@ -43,3 +43,6 @@ pub fn read(alloc: Global, bytes: &[u8]) -> Result<Option<Program>, NoMemory>
 pub fn one_weight()
     ensures { (bytes : List ℕ) (p q : Program) → IsSourceOf bytes p → IsSourceOf bytes q → weight p ≡ weight q }
 {}
+
+#[cfg(test)]
+mod tests;

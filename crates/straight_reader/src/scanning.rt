@@ -1,10 +1,10 @@
 //! From the bytes of a source to its tokens.
 
-ghost use Rattle.std.specs.Prelude.{◌≡◌, ℕ, List, ◌≤◌, length, IfOk, IfErr};
+ghost use Rattle.std.specs.Prelude.{◌≡◌, ℕ, List, ◌+◌, ◌≤◌, length, IfOk};
 ghost use Rattle.std.specs.List.{prefix_len};
 ghost use Rattle.straight_form.specs.Lexing.{is_space, Lexes};
 ghost use Rattle.straight_form.specs.declared.token.Token.{Token};
-ghost use Rattle.straight_reader.specs.Scanned.{after_spaces, kinds, WhereRefused};
+ghost use Rattle.straight_reader.specs.Scanned.{after_spaces, kinds, OnRefusal};
 
 use crate::stop::Stop;
 use crate::tokens::token;
@@ -41,6 +41,8 @@ fn span_between(bytes: &[u8], from: &[u8], to: &[u8]) -> Span
     requires size { length bytes.now ≤ 1048576 }
     requires start { length from.now ≤ length bytes.now }
     requires end { length to.now ≤ length bytes.now }
+    ensures start { result.start + length from.now ≡ length bytes.now }
+    ensures end { result.end + length to.now ≡ length bytes.now }
 {
     Span {
         start: (bytes.len() - from.len()) as u32,
@@ -52,7 +54,7 @@ fn span_between(bytes: &[u8], from: &[u8], to: &[u8]) -> Span
 pub fn scan(alloc: Global, bytes: &[u8]) -> Result<List<Lexeme>, Stop>
     requires { length bytes.now ≤ 1048576 }
     ensures lexed { IfOk result (λ lexemes. Lexes bytes.now (kinds lexemes)) }
-    ensures refused { IfErr result (λ stop. WhereRefused stop ((tokens : List Token) → ¬ Lexes bytes.now tokens)) }
+    ensures refused { OnRefusal result ((tokens : List Token) → ¬ Lexes bytes.now tokens) }
 {
     let mut lexemes = List::new(alloc);
     let mut rest = skip_spaces(bytes);

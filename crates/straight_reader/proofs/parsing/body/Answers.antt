@@ -15,8 +15,7 @@ pub returns-clause-ok : goal.returns-clause-ok
 returns-clause-ok c =
     let stores = c.in_ok-stmts.ensures.ok in
     let last = c.in_ok-last.ensures.ok in (
-      stores.0,
-      last.0,
+      (stores.0, last.0),
       record { last = kinds c.in_ok-stmts.rest.now; first = stores.1; returns = last.1 },
       subst (λ stmts. IsBody stmts stores.0 last.0) (sym c.in_ok-push.ensures.ok) (body_is c.in_ok-stmts.stmts stores.0 c.in_ok-last.last last.0 stores.2 last.2),
     )

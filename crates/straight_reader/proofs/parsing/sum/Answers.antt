@@ -10,5 +10,5 @@ returns-clause-ok c =
     let terms = c.in_ok-terms.ensures.ok in (
       first.0 ∷ terms.0,
       Sum (kinds c.args.rest.now) (kinds c.in_ok-first.rest.now) (kinds c.in_ok-terms.rest.now) first.0 terms.0 first.1 terms.1,
-      chain_is_sum c.in_ok-sum.sum c.in_ok-first.first c.in_ok-terms.terms first.0 terms.0 c.in_ok-sum.ensures.one c.in_ok-sum.ensures.more first.2 first.3 terms.2,
+      chain_is_sum c.in_ok-sum.sum c.in_ok-first.first c.in_ok-terms.terms first.0 terms.0 c.in_ok-sum.ensures.one c.in_ok-sum.ensures.more (first.2).0 (first.2).1 terms.2,
     )

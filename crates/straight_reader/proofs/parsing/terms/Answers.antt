@@ -13,7 +13,7 @@ pub terms-preserved : goal.terms-preserved
 terms-preserved c =
     let number = c.in_ok-term.ensures.ok in
     subst (TermsSo (kinds c.args.rest.now) (kinds c.in_ok-term.after.now)) (sym c.in_ok-push.ensures.ok)
-    (terms_more (kinds c.args.rest.now) (kinds c.terms.left.now) (kinds c.in-Some.more.now) (kinds c.in_ok-term.after.now) c.terms.terms c.in_ok-term.term number.0 c.in-Some.ensures.some number.1 number.2 number.3 c.terms.invariant)
+    (terms_more (kinds c.args.rest.now) (kinds c.terms.left.now) (kinds c.in-Some.more.now) (kinds c.in_ok-term.after.now) c.terms.terms c.in_ok-term.term number.0 c.in-Some.ensures.some number.1 (number.2).0 (number.2).1 c.terms.invariant)
 
 pub returns-clause-ok : goal.returns-clause-ok
 returns-clause-ok c = terms_done (kinds c.args.rest.now) (kinds c.terms.left.now) c.terms.terms c.in_default.ensures.none c.terms.invariant

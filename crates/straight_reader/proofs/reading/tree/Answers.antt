@@ -11,4 +11,4 @@ returns-in_err-program-clause-refused c =
 pub returns-clause-ok : goal.returns-clause-ok
 returns-clause-ok c =
     let program = c.in_ok-program.ensures.ok in
-    source_of c.args.bytes.now (kinds c.as_slice.result.now) c.in_ok-program.program program.0 program.1 (rw c.as_slice.ensures c.in_ok-lexemes.ensures.lexed) program.2 program.3
+    source_of c.args.bytes.now (kinds c.as_slice.result.now) c.in_ok-program.program program.0 (rw c.as_slice.ensures c.in_ok-lexemes.ensures.lexed) program.1 program.2
