@@ -15,7 +15,17 @@ pub returns : goal.returns
 returns t c =
     let s = c.split-quotient.ensures in
     let same : to_z w32 (of_z w32 c.split-quotient.result.1) ≡ c.split-quotient.result.1 = to_z-of_z w32 _ (omega (arith, ints)) in
-    elim c.if-quotient.branch as (λ _. Pushed c.args.code.now c.push-2.new.self c.args.rd c.args.word) [
-      | then-quotient+in_ok-push-2 w ↦ pushed_upper c.args.rd c.requires.not_zero c.requires.register c.args.word _ _ s.sum s.low s.high c.args.code.now w.push-then-quotient.new.self c.push-2.new.self (omega arith) w.if-quotient.true w.in_ok-push-2.ensures.ok (rw (w.code-is, same) at c.in_ok-push-4.ensures.ok)
-      | else-quotient+in_ok-push_constant+in_ok-push-3 w ↦ pushed_long c.args.rd c.requires.not_zero c.requires.register c.args.word _ _ s.sum s.low s.high c.args.code.now w.push_constant.new.code w.push-else-quotient.new.self c.push-2.new.self (omega arith) (omega arith) s.smaller w.if-quotient.false w.in_ok-push_constant.ensures w.in_ok-push-3.ensures.ok (rw (w.code-is, same) at c.in_ok-push-4.ensures.ok)
+    let old = c.args.code.now in
+    let new = c.push-2.new.self in
+    elim c.if-quotient.branch as (λ _. Pushed old new c.args.rd c.args.word) [
+      | then-quotient+in_ok-push-2 w ↦ (
+          let last = rw (w.code-is, same) at c.in_ok-push-4.ensures.ok in
+          pushed_upper c.args.rd c.requires.not_zero c.requires.register c.args.word _ _ s.sum s.low s.high old w.push-then-quotient.new.self new
+          (omega arith) w.if-quotient.true w.in_ok-push-2.ensures.ok last
+          )
+      | else-quotient+in_ok-push_constant+in_ok-push-3 w ↦ (
+          let last = rw (w.code-is, same) at c.in_ok-push-4.ensures.ok in
+          pushed_long c.args.rd c.requires.not_zero c.requires.register c.args.word _ _ s.sum s.low s.high old w.push_constant.new.code w.push-else-quotient.new.self new
+          (omega arith) (omega arith) s.smaller w.if-quotient.false w.in_ok-push_constant.ensures w.in_ok-push-3.ensures.ok last
+          )
     ]
