@@ -30,7 +30,7 @@ module _ (stack : ℕ) (source : ℕ → Seen) (machine : ℕ → Behaviour) (st
   stands : (k l : ℕ) → Stands (machine k) (machine l) k l
   stands k l =
       elim (split k l) [
-        inl h ↦ (let e : k + (l - k) ≡ l = omega arith in subst (λ m. Stands (machine k) (machine m) k m) e (up k (l - k)))
+        | inl h ↦ (let e : k + (l - k) ≡ l = omega arith in subst (λ m. Stands (machine k) (machine m) k m) e (up k (l - k)))
         | inr h ↦ (let e : l + (k - l) ≡ k = omega arith in subst (λ m. Stands (machine m) (machine l) m l) e (down l (k - l) (omega arith)))
       ]
 

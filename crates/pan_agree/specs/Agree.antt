@@ -3,7 +3,7 @@ use Rattle.std.specs.Prelude.{◌≡◌, ◌≢◌, ◌⊎◌, ℕ, ◌<◌, ◌
 use Rattle.pan_base.specs.Events.{Ending, Exit, Uncaught, Stopped, Asks, Spent, Stack, Fault, Fails, Behaviour, IsPrefix}
 use Rattle.pan_control.specs.Seen.{Seen}
 
--- a run that ends by itself or at the outside, not by want of fuel, of steps or of stack, nor by a failing step
+-- an end of the run by itself or at the outside: not by want of fuel, of steps or of stack, and neither a failing step nor a fault
 abbrev pub is_real : Ending → Bool
 is_real (Exit n) = true
 is_real (Uncaught n) = true
@@ -20,7 +20,7 @@ pub record Overflows (stack : ℕ) (s : Seen) (b : Behaviour) : Type 0 where
   pub deeper : stack < s.deepest
   pub front : IsPrefix b.events (s.behaviour).events
 
--- (a) Whatever the source does, short of a failing step, the machine does in some number of steps, the exhausted stack aside.
+-- Whatever the source does, short of a failing step, the machine does in some number of steps, the exhausted stack aside.
 abbrev pub Forward : ℕ → (ℕ → Seen) → (ℕ → Behaviour) → Type 0
 Forward stack source machine =
     (n : ℕ) → ((source n).behaviour).ending ≢ Fails
@@ -36,11 +36,11 @@ pub record DoesNoMore (source : ℕ → Seen) (b : Behaviour) : Type 0 where
   pub front : (n : ℕ) × IsPrefix b.events ((source n).behaviour).events
   pub same_end : IsTrue (is_real b.ending) → (n : ℕ) × (b ≡ (source n).behaviour)
 
--- (b) Whatever the machine does, the source does, where it makes no failing step.
+-- Whatever the machine does, the source does, where it makes no failing step.
 abbrev pub Backward : (ℕ → Seen) → (ℕ → Behaviour) → Type 0
 Backward source machine = NeverFails source → (k : ℕ) → DoesNoMore source (machine k)
 
--- (c) The machine runs out of its stack only where the active calls of the source cost more than that.
+-- The machine runs out of its stack only where the active calls of the source cost more than that.
 abbrev pub Exhausts : ℕ → (ℕ → Seen) → (ℕ → Behaviour) → Type 0
 Exhausts stack source machine = NeverFails source → (k : ℕ) → (machine k).ending ≡ Stack → (n : ℕ) × Overflows stack (source n) (machine k)
 

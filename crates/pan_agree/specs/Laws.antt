@@ -14,7 +14,7 @@ pub record IsSourceLike (source : ℕ → Seen) : Type 0 where
   pub no_fault : (n : ℕ) → ((source n).behaviour).ending ≢ Fault
   pub no_stack : (n : ℕ) → ((source n).behaviour).ending ≢ Stack
 
--- the machine does in k steps what the source did with n units of fuel, and took as many steps as units where the source was spent
+-- the machine does in k steps what the source did with n units of fuel, and took at least as many steps as units where the source was spent
 pub record DoesInTime (n k : ℕ) (s : Seen) (b : Behaviour) : Type 0 where
   pub same : b ≡ s.behaviour
   pub in_time : (s.behaviour).ending ≡ Spent → n ≤ k

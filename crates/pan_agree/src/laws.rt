@@ -15,5 +15,4 @@ pub fn both_ways()
         → IsSteady (machine code names memory stack replies) }
     ensures agree { (stack : ℕ) (source : ℕ → Seen) (runs : ℕ → Behaviour)
         → IsSteady runs → IsSourceLike source → ForwardInTime stack source runs → Agree stack source runs }
-{
-}
+{}

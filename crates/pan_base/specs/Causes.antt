@@ -1,5 +1,5 @@
 -- What shows that the outside failed.
-use Rattle.std.specs.Prelude.{◌≡◌, ℕ, ◌+◌, ◌-◌, ◌^◌, ◌≤◌, min, OnErr, Result}
+use Rattle.std.specs.Prelude.{ℕ, ◌+◌, ◌-◌, ◌^◌, ◌≤◌, min, OnErr, Result}
 
 -- A count of 64 bits rose, or stands at its last value, where it stays.
 abbrev pub Rose : ℕ → ℕ → Type 0

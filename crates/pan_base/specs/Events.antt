@@ -52,7 +52,7 @@ fits _ _ = false
 abbrev pub Fits : Asked → Replied → Type 0
 Fits q r = IsTrue (fits q r)
 
--- a request with the reply that it got, which fits
+-- a request with its reply; in a trace the reply fits
 pub record Event : Type 0 where
   pub request : Asked
   pub reply : Replied

@@ -1,5 +1,5 @@
 -- Files as a function from names to bytes, where they are told, and what reads and writes do to them.
-use Rattle.std.specs.Prelude.{◌≡◌, ◌≢◌, ◌⊎◌, ℕ, ◌≤◌, List, take, Result, Ok, Err, Option, Some, None}
+use Rattle.std.specs.Prelude.{◌≡◌, ◌≢◌, ◌⊎◌, ℕ, ◌≤◌, ◌<◌, ◌+◌, List, length, take, Result, Ok, Err, Option, Some, None}
 use Rattle.pan_base.specs.Causes.{Rose}
 use Rattle.pan_base.specs.declared.file_error.FileError.{FileError}
 use Rattle.pan_base.specs.declared.file_error.FileError.TheVariants as error
@@ -40,17 +40,27 @@ Stored (Some old) (Some new) name bytes = (new name ≡ Some bytes) × OthersSam
 Stored None (Some new) name bytes = ⊥
 Stored (Some old) None name bytes = ⊥
 
--- the file is as before or has a prefix of these bytes, and the others are as before
-abbrev pub StoredInPart : Option Files → Option Files → List ℕ → List ℕ → Type 0
-StoredInPart None None name bytes = Unit {0}
-StoredInPart (Some old) (Some new) name bytes = ((new name ≡ old name) ⊎ ((n : ℕ) × (new name ≡ Some (take n bytes)))) × OthersSame old new name
-StoredInPart None (Some new) name bytes = ⊥
-StoredInPart (Some old) None name bytes = ⊥
+-- the file is as before or has the first n of these bytes, for an n below the limit, and the others are as before
+abbrev pub StoredBelow : ℕ → Option Files → Option Files → List ℕ → List ℕ → Type 0
+StoredBelow limit None None name bytes = Unit {0}
+StoredBelow limit (Some old) (Some new) name bytes = ((new name ≡ old name) ⊎ ((n : ℕ) × (n < limit) × (new name ≡ Some (take n bytes)))) × OthersSame old new name
+StoredBelow limit None (Some new) name bytes = ⊥
+StoredBelow limit (Some old) None name bytes = ⊥
 
--- what a write leaves
+-- the file is as before or has a prefix of these bytes, which may be all of them, and the others are as before
+abbrev pub StoredInPart : Option Files → Option Files → List ℕ → List ℕ → Type 0
+StoredInPart old new name bytes = StoredBelow (length bytes + 1) old new name bytes
+
+-- the file is as before or has a prefix of these bytes that isn't all of them, and the others are as before
+abbrev pub StoredShort : Option Files → Option Files → List ℕ → List ℕ → Type 0
+StoredShort old new name bytes = StoredBelow (length bytes) old new name bytes
+
+-- what a write leaves: all of the bytes, or a prefix where it fails, which isn't all of them where it fails for want of memory
 abbrev pub Writes : Option Files → Option Files → List ℕ → List ℕ → Result (Unit {0}) FileError → Type 0
 Writes old new name bytes (Ok x) = Stored old new name bytes
-Writes old new name bytes (Err e) = StoredInPart old new name bytes
+Writes old new name bytes (Err error.Missing) = ⊥
+Writes old new name bytes (Err error.Fault) = StoredInPart old new name bytes
+Writes old new name bytes (Err error.NoMemory) = StoredShort old new name bytes
 
 -- a fault came only where the count rose, a missing file raises no count, and the count doesn't fall
 pub record FaultCause {T : Type 0} (before now : ℕ) (result : Result T FileError) : Type 0 where

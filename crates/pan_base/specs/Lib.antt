@@ -1,6 +1,15 @@
 pub mod Causes
+pub mod Counts
 pub mod Events
 pub mod Files
+pub mod LineCount
+pub mod MemFiles
+pub mod MemSink
 pub mod Names
+pub mod RealFiles
+pub mod RealOut
 pub mod Sinks
 pub mod Words
+pub mod Spelling
+pub mod Tokens
+pub mod Lexing

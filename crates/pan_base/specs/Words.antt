@@ -35,6 +35,10 @@ shift Shr a n = a / 2 ^ n
 shift Sar a n = if nat_lt a (2 ^ 63) then a / 2 ^ n else 2 ^ 64 - 1 - (2 ^ 64 - 1 - a) / 2 ^ n
 shift Ror a n = bit_or (a / 2 ^ n) (a * 2 ^ ((64 - n) % 64) % 2 ^ 64)
 
+-- the word with the sign turned round
+abbrev pub negate : ℕ → ℕ
+negate a = (2 ^ 64 - a) % 2 ^ 64
+
 -- whether the comparison holds of two words, which `Lt` and `Ge` read in two's complement
 abbrev pub compare : Cmp → ℕ → ℕ → Bool
 compare Eq a b = nat_eq a b
@@ -43,3 +47,14 @@ compare Lt a b = int_lt (signed 64 a) (signed 64 b)
 compare Ge a b = not (int_lt (signed 64 a) (signed 64 b))
 compare Ltu a b = nat_lt a b
 compare Geu a b = not (nat_lt a b)
+
+-- the word that a comparison gives: 1 where it holds, else 0
+abbrev pub truth : Cmp → ℕ → ℕ → ℕ
+truth c a b = if compare c a b then 1 else 0
+
+-- the address at which local memory begins, and how many bytes a word has
+abbrev pub base_address : ℕ
+base_address = 0x10000000
+
+abbrev pub bytes_in_word : ℕ
+bytes_in_word = 8

@@ -16,9 +16,16 @@ pub enum Size {
 #[derive(Clone, Copy)]
 pub enum Request<'a> {
     /// The value of so many bytes at an address of the shared window.
-    Load { size: Size, addr: u64 },
+    Load {
+        size: Size,
+        addr: u64,
+    },
     /// That a value goes to an address of the shared window.
-    Store { size: Size, addr: u64, value: u64 },
+    Store {
+        size: Size,
+        addr: u64,
+        value: u64,
+    },
     /// That the foreign function of this number and name replaces the bytes of `array`.
     Foreign {
         number: u32,

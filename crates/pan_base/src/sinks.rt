@@ -1,6 +1,7 @@
 //! Where text goes.
 
 ghost use Rattle.std.specs.Prelude.{◌≡◌, ℕ, ◌≤◌, ◌<◌, length};
+ghost use Rattle.std.specs.List.{flat_map};
 ghost use Rattle.pan_base.specs.Causes.{HasCause};
 ghost use Rattle.pan_base.specs.Sinks.{SinkState, Puts, PutsAll};
 
@@ -28,6 +29,17 @@ pub fn put_all<O: Sink>(out: &mut O, bytes: &[u8]) -> Result<(), SinkFault>
     let mut done = 0;
     while done < bytes.len() {
         done += out.put(&bytes[done..])?;
+    }
+    Ok(())
+}
+
+/// Puts the pieces one after another, or answers the sink's fault, a prefix of all of them being put then.
+pub fn put_each<O: Sink>(out: &mut O, pieces: &[&[u8]]) -> Result<(), SinkFault>
+    ensures took { PutsAll (O.state out.old) (O.state out.new) result (flat_map (λ piece. piece.now) pieces.now) }
+    ensures cause { HasCause (O.state out.old).faults (O.state out.new).faults result }
+{
+    for piece in pieces {
+        put_all(out, piece)?;
     }
     Ok(())
 }

@@ -54,7 +54,7 @@ ask_of (r ∷ rs) q w go = ask_fit (fits q r) q r w rs go
 abbrev pub ask : {V X : Type 0} → Asked → World → (Replied → World → Outcome V X) → Outcome V X
 ask q w go = ask_of w.replies q w go
 
--- a function's body has left it, and nothing is left of its variables
+-- What a function's body leaves to the caller, without its variables. A body that ends in another way than by a return or a raise, which the check rules out, fails.
 abbrev pub left : {V U X : Type 0} → Outcome V X → Outcome U X
 left (Normal v w) = Over Fails w
 left (Broken v w) = Over Fails w

@@ -1,6 +1,5 @@
 -- What a program weighs, and what an active call of a function costs.
-use Rattle.std.specs.Prelude.{ℕ, ◌+◌, ◌*◌, List, [], ◌∷◌, map, sum}
-use Rattle.pan_base.specs.declared.operators.BinOp.{BinOp}
+use Rattle.std.specs.Prelude.{ℕ, ◌+◌, ◌*◌, map, sum}
 use Rattle.pan_tree.specs.declared.shape.Shape.{Shape, Shape-F, fold-Shape}
 use Rattle.pan_tree.specs.declared.shape.Shape.TheOpen as shape
 use Rattle.pan_tree.specs.declared.spanned.Spanned.{Spanned}
@@ -8,7 +7,6 @@ use Rattle.pan_tree.specs.declared.syntax.ExprKind.{ExprKind, ExprKind-F, fold-E
 use Rattle.pan_tree.specs.declared.syntax.ExprKind.TheOpen as expr
 use Rattle.pan_tree.specs.declared.syntax.StmtKind.{StmtKind}
 use Rattle.pan_tree.specs.declared.syntax.StmtKind.TheVariants as stmt
-use Rattle.pan_tree.specs.declared.program.Param.{Param}
 use Rattle.pan_tree.specs.declared.program.Function.{Function}
 use Rattle.pan_tree.specs.declared.program.Program.{Program}
 

@@ -5,8 +5,10 @@ mod program;
 mod shape;
 mod spanned;
 mod syntax;
+mod weighing;
 
 pub use program::{Exception, Function, Param, Program};
 pub use shape::Shape;
 pub use spanned::Spanned;
 pub use syntax::{Block, BlockOf, Expr, ExprKind, Stmt, StmtKind};
+pub use weighing::weight;

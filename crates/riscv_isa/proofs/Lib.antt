@@ -1,1 +1,3 @@
 pub mod DecodedLaws
+pub mod KnownResults
+pub mod KnownRuns

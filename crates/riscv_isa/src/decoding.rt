@@ -1,4 +1,5 @@
-//! From words to instructions, by the formats of the RISC-V unprivileged ISA.
+//! From words to instructions, by the formats of the RISC-V unprivileged ISA (sections 2.2 and 2.3, and its listing of
+//! RV64I and M).
 
 ghost use Rattle.std.specs.Prelude.{◌≡◌, ◌==◌, ◌&&◌, ◌⊎◌, IfSome, Some, find, ◌+◌, ◌*◌, ◌^◌};
 ghost use Rattle.pan_base.specs.Words.{signed};

@@ -1,4 +1,5 @@
-//! From instructions to words, by the formats of the RISC-V unprivileged ISA.
+//! From instructions to words, by the formats of the RISC-V unprivileged ISA (sections 2.2 and 2.3, and its listing of
+//! RV64I and M).
 
 ghost use Rattle.std.specs.Prelude.{◌≡◌, IfSome, Some, ℕ, pos, negsuc, ◌+◌, ◌*◌, ◌^◌, ◌<◌, ◌≤ℤ◌};
 ghost use Rattle.riscv_isa.specs.Table.{r_code, i_opcode, i_funct3, l_funct3, s_funct3, b_funct3, u_opcode, amounts, Instruction, InRange, IsEven, RFormat, IFormat, SFormat, BFormat, UFormat, JFormat, ShFormat, ShwFormat, FenceFormat, ShRow};

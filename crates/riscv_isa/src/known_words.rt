@@ -3,6 +3,7 @@
 use crate::decoding::decode;
 use crate::encoding::encode;
 use crate::instr::Instr;
+use crate::laws::{decoded_is_the_table, read_written, write_read};
 use pan_base::{Cmp, IOp, ROp, SOp, ShiftOp, UOp};
 
 /// `addi x10, x0, 5`
@@ -80,4 +81,15 @@ fn refuses(rt: HostRuntime) {
     for word in [0x8005_5513, 0x0000_0000] {
         assert_eq!(rt; decode(word), None);
     }
+}
+
+/// The laws' calls return.
+#[test]
+fn undoes(rt: HostRuntime) {
+    for (instr, word) in KNOWN {
+        assert_eq!(rt; read_written(instr), Some(instr));
+        assert_eq!(rt; write_read(word), Some(word));
+    }
+    assert_eq!(rt; write_read(0), None);
+    decoded_is_the_table();
 }

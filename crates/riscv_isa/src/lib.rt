@@ -1,4 +1,5 @@
-//! The machine's instructions, what they do, and the form of an image (`specs/`), with the encoder.
+//! The machine's instructions, what they do, and the form of an image (`specs/`), with the encoder and the
+//! decoder.
 #![tactic(auto)]
 
 #[cfg(test)]

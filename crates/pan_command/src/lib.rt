@@ -1,0 +1,10 @@
+//! The top call: `panc` on the words of its command line, over any files and any sink of text.
+#![tactic(auto)]
+
+mod building;
+mod command;
+mod status;
+#[cfg(test)]
+mod tests;
+
+pub use command::panc;

@@ -1,0 +1,147 @@
+//! The top call over files and a sink in memory.
+
+use crate::panc;
+use pan_base::{Blob, Failing, FileError, List, MemFiles, MemSink, NoMemory, Text, Workspace};
+use std::alloc::Global;
+use std::test::Fail;
+
+const FIRST: &str = "fun main() { !st64 0x40000000, 2 + 3; return 7; }";
+
+/// The bytes of a file, or `none` where there is none.
+fn bytes_of(alloc: Global, files: &mut MemFiles, name: &str) -> Result<Blob, NoMemory> {
+    match files.read(alloc, name) {
+        Ok(bytes) => Ok(bytes),
+        Err(FileError::Missing | FileError::Fault) => Blob::from_slice(alloc, b"none"),
+        Err(FileError::NoMemory) => Err(NoMemory),
+    }
+}
+
+/// The words of a line, parted by single spaces.
+fn words_of(alloc: Global, line: &str) -> Result<List<Text>, NoMemory> {
+    let mut words = List::new(alloc);
+    for word in line.split_whitespace() {
+        words.push(Text::from_str(alloc, word)?)?;
+    }
+    Ok(words)
+}
+
+/// Files with `a.pan`, and the calls that are to fail.
+fn files_with(alloc: Global, source: &str, failing: Option<Failing>) -> Result<MemFiles, NoMemory> {
+    let mut files = List::new(alloc);
+    let name = Text::from_str(alloc, "a.pan")?;
+    files.push((name, Blob::from_slice(alloc, source.as_bytes())?))?;
+    let old = Text::from_str(alloc, "a.img")?;
+    files.push((old, Blob::from_slice(alloc, b"old")?))?;
+    let mut calls = List::new(alloc);
+    if let Some(failing) = failing {
+        calls.push(failing)?;
+    }
+    MemFiles::new(alloc, files, calls)
+}
+
+/// The image of the first source: 32 bytes of header, and the code of
+/// `lui t0, 0x40000; addi t0, t0, 0; addi t1, x0, 5; sd t1, 0(t0); addi a1, x0, 7; addi a0, x0, 0; addi a7, x0, 0; ecall`.
+const FIRST_IMAGE: [u8; 64] = [
+    b'P', b'N', b'K', b'1', 32, 0, 0, 0, 0, 0, 0, 0, 0, 0, 0, 0, 0xff, 0xff, 0xff, 0xff, 0xff,
+    0xff, 0xff, 0xff, 0, 0, 0, 0, 0, 0, 0, 0, 0xb7, 0x02, 0x00, 0x40, 0x93, 0x82, 0x02, 0x00, 0x13,
+    0x03, 0x50, 0x00, 0x23, 0xb0, 0x62, 0x00, 0x93, 0x05, 0x70, 0x00, 0x13, 0x05, 0x00, 0x00, 0x93,
+    0x08, 0x00, 0x00, 0x73, 0x00, 0x00, 0x00,
+];
+
+#[test]
+fn answers(rt: HostRuntime) -> Result<(), Fail> {
+    let alloc = rt.alloc();
+    for (line, source, text, status) in [
+        ("compile a.pan a.img", FIRST, "bound none\n", 0),
+        (
+            "compile a.pan a.img",
+            "fun main() { return 7; }",
+            "bound none\n",
+            0,
+        ),
+        (
+            "compile a.pan a.img",
+            "fun main() { return 1 - 1; }",
+            "0 Unsupported\n",
+            4,
+        ),
+        ("compile a.pan a.img", "", "0 Unsupported\n", 4),
+        ("compile a.pan", FIRST, "usage\n", 2),
+        ("compile a.pan -a.img", FIRST, "usage\n", 2),
+        ("check a.pan", FIRST, "usage\n", 2),
+        ("", FIRST, "usage\n", 2),
+        ("compile b.pan a.img", FIRST, "read b.pan\n", 3),
+    ] {
+        let words = words_of(alloc, line)?;
+        let mut files = files_with(alloc, source, None)?;
+        let mut out = MemSink::new(alloc, 100, List::new(alloc))?;
+        assert_eq!(rt;
+            panc(alloc, words.as_slice(), &mut files, &mut out),
+            status,
+            "{line}: {source}"
+        );
+        assert_eq!(rt; out.bytes(), text.as_bytes(), "{line}: {source}");
+        if status != 0 {
+            let old: &[u8] = b"old";
+            assert_eq!(rt;
+                bytes_of(alloc, &mut files, "a.img")?.as_slice(),
+                old,
+                "{line}: {source}"
+            );
+        }
+    }
+    Ok(())
+}
+
+#[test]
+fn writes_the_image(rt: HostRuntime) -> Result<(), Fail> {
+    let alloc = rt.alloc();
+    let words = words_of(alloc, "compile a.pan a.img")?;
+    let mut files = files_with(alloc, FIRST, None)?;
+    let mut out = MemSink::new(alloc, 100, List::new(alloc))?;
+    assert_eq!(rt; panc(alloc, words.as_slice(), &mut files, &mut out), 0);
+    let image: &[u8] = &FIRST_IMAGE;
+    assert_eq!(rt; bytes_of(alloc, &mut files, "a.img")?.as_slice(), image);
+    assert_eq!(rt;
+        bytes_of(alloc, &mut files, "a.pan")?.as_slice(),
+        FIRST.as_bytes()
+    );
+    Ok(())
+}
+
+#[test]
+fn meets_faults(rt: HostRuntime) -> Result<(), Fail> {
+    let alloc = rt.alloc();
+    let words = words_of(alloc, "compile a.pan a.img")?;
+    let fault = |call: u64, keep: Option<u64>| Some(Failing { call, keep });
+    for (failing, text, image) in [
+        (fault(0, None), "read a.pan\n", "old"),
+        (fault(1, None), "write a.img\n", "old"),
+        (fault(1, Some(2)), "write a.img\n", "PN"),
+    ] {
+        let mut files = files_with(alloc, FIRST, failing)?;
+        let mut out = MemSink::new(alloc, 100, List::new(alloc))?;
+        let status = panc(alloc, words.as_slice(), &mut files, &mut out);
+        assert_eq!(rt;
+            status,
+            if image == "old" && text == "read a.pan\n" {
+                3
+            } else {
+                7
+            }
+        );
+        assert_eq!(rt; out.bytes(), text.as_bytes());
+        assert_eq!(rt;
+            bytes_of(alloc, &mut files, "a.img")?.as_slice(),
+            image.as_bytes()
+        );
+    }
+
+    // The line of the bound can't be put, and the image stands.
+    let mut files = files_with(alloc, FIRST, None)?;
+    let mut out = MemSink::new(alloc, 5, List::new(alloc))?;
+    assert_eq!(rt; panc(alloc, words.as_slice(), &mut files, &mut out), 7);
+    let image: &[u8] = &FIRST_IMAGE;
+    assert_eq!(rt; bytes_of(alloc, &mut files, "a.img")?.as_slice(), image);
+    Ok(())
+}

@@ -1,0 +1,13 @@
+use Rattle.std.proofs.Common.{◌≡◌, ◌<◌, ◌^◌, drop}
+use Rattle.std.specs.List.{list_all}
+use Rattle.straight_form.specs.Lexing.{value_after}
+use Rattle.straight_reader.specs.Spelled.{is_digit_in}
+use Rattle.straight_reader.proofs.numerals.value.Given as goal
+
+-- what is left to read completes what is read
+abbrev pub invariant-loop-byte : goal.invariant-loop-byte
+invariant-loop-byte l = record {
+  value : value_after l.base l.value (drop l.byte-index l.digits) ≡ value_after l.base 0 l.digits;
+  digits : list_all (is_digit_in l.base) (drop l.byte-index l.digits) ≡ list_all (is_digit_in l.base) l.digits;
+  small : l.value < 2 ^ 64;
+}

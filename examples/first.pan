@@ -1,0 +1,1 @@
+fun main() { !st64 0x40000000, 2 + 3; return 7; }
