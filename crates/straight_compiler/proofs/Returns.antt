@@ -63,8 +63,11 @@ return_performs e x first second third gives f g h = record {
         state = s;
         ready = ready;
         same = λ go v w ok.
-            ap (λ (run : State → List Replied → Behaviour). shown w (run s w.replies)) (follow_append ((first ++ second) ++ third) (instr.Ecall ∷ []) go ∙ follow_append (first ++ second) third (follow (instr.Ecall ∷ []) go) ∙ follow_append first second (follow third (follow (instr.Ecall ∷ []) go)))
-            ∙ ap (shown w) (l.silent (follow second (follow third (follow (instr.Ecall ∷ []) go))) w.replies ∙ m.silent (follow third (follow (instr.Ecall ∷ []) go)) w.replies ∙ n.silent (follow (instr.Ecall ∷ []) go) w.replies ∙ ap (λ (c : Config). continue c go w.replies) is)
+            let call = follow (instr.Ecall ∷ []) go in
+            let parts = follow_append ((first ++ second) ++ third) (instr.Ecall ∷ []) go ∙ follow_append (first ++ second) third call ∙ follow_append first second (follow third call) in
+            ap (λ (run : State → List Replied → Behaviour). shown w (run s w.replies)) parts
+            ∙ ap (shown w) (l.silent (follow second (follow third call)) w.replies ∙ m.silent (follow third call) w.replies ∙ n.silent call w.replies)
+            ∙ ap (λ (c : Config). shown w (continue c go w.replies)) is
             ∙ returned_same (value e v w.memory) x w (go s) (gives v w.memory);
       };
 }

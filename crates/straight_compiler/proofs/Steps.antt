@@ -1,5 +1,5 @@
 -- The machine acts the instructions of its code one after another.
-use Rattle.std.proofs.Common.{◌≡◌, ℕ, ◌+◌, ◌-◌, ◌^◌, ◌<◌, suc, zero-add, refl, sym, ap, ◌∙◌, List, [], ◌∷◌, ◌++◌, length, take, drop, append_assoc, Bool, true, false, eqb, cond, Some, arith, le-leb}
+use Rattle.std.proofs.Common.{◌≡◌, ℕ, ◌+◌, ◌-◌, ◌^◌, ◌<◌, suc, zero-add, refl, sym, ap, ◌∙◌, subst, List, [], ◌∷◌, ◌++◌, length, take, drop, append_assoc, Bool, true, false, eqb, cond, Some, arith, le-leb}
 use Rattle.std.specs.Int.{w32, to_le_bytes, from_le_bytes}
 use Rattle.std.specs.Prelude.{nat_le}
 use Rattle.std.specs.List.{All}
@@ -101,7 +101,8 @@ goes_next (instr.Jalr rd rs1 imm) s h = absurd h
 
 -- ---- the word at pc
 
-fetches : (s : State) (front rest : List ℕ) (w : ℕ) → w < 2 ^ 32 → s.code ≡ front ++ (to_le_bytes w32 w ++ rest) → s.pc ≡ 0x100000000 + length front → fetched s ≡ Some w
+fetches : (s : State) (front rest : List ℕ) (w : ℕ) → w < 2 ^ 32 → s.code ≡ front ++ (to_le_bytes w32 w ++ rest) → s.pc ≡ 0x100000000 + length front
+    → fetched s ≡ Some w
 fetches s front rest w small code at =
     let skipped : drop (s.pc - 0x100000000) s.code ≡ to_le_bytes w32 w ++ rest = ap (λ c. drop (s.pc - 0x100000000) c) code ∙ drop_at front _ _ (omega arith) in
     let word : from_le_bytes w32 (take 4 (drop (s.pc - 0x100000000) s.code)) ≡ w =
@@ -136,22 +137,41 @@ word_small w instr.Ebreak h = omega arith
 -- ---- acts and runs
 
 -- two ways to go on that agree wherever it goes on
-continue_same : (s : State) (c : Config) (f g : State → List Replied → Behaviour) (replies : List Replied) → GoesNext s c → ((t : State) → IsNext s t → (rs : List Replied) → f t rs ≡ g t rs) → continue c f replies ≡ continue c g replies
+continue_same : (s : State) (c : Config) (f g : State → List Replied → Behaviour) (replies : List Replied) → GoesNext s c
+    → ((t : State) → IsNext s t → (rs : List Replied) → f t rs ≡ g t rs) → continue c f replies ≡ continue c g replies
 continue_same s (Runs t) f g replies next same = same t next replies
 continue_same s (Over e) f g replies next same = refl
 continue_same s (Waits p t) f g [] next same = refl
-continue_same s (Waits p t) f g (r ∷ replies) next same = ap (taken (fits (request_of p t) r) (request_of p t) r) (same (resumed p t r) (next r) replies)
+continue_same s (Waits p t) f g (r ∷ replies) next same =
+    ap (taken (fits (request_of p t) r) (request_of p t) r) (same (resumed p t r) (next r) replies)
 
 stepped : (s : State) (w : ℕ) (i : Instr) → fetched s ≡ Some w → Instruction w i → step s ≡ act i s
 unfolding step
 stepped s w i at h = ap (λ f. act_some (decoded_some f) s) at ∙ ap (λ d. act_some d s) (reads w i h)
 
+-- the machine stands in its code where these bytes begin
+pub record Stands (s : State) (front bytes : List ℕ) : Type 0 where
+  pub code : s.code ≡ front ++ bytes
+  pub pc : s.pc ≡ 0x100000000 + length front
+
+-- at the next instruction it stands after the word
+stands_next : (s t : State) (front rest : List ℕ) (w : ℕ) → Stands s front (to_le_bytes w32 w ++ rest) → IsNext s t → Stands t (front ++ to_le_bytes w32 w) rest
+stands_next s t front rest w at next = record {
+  code = next.code ∙ at.code ∙ sym (append_assoc front (to_le_bytes w32 w) rest);
+  pc = omega (arith, next.pc, at.pc, length-append front (to_le_bytes w32 w));
+}
+
 -- The machine that comes to these instructions acts them, and goes on with the steps that are left.
-pub runs : (is : List Instr) (k : ℕ) (s : State) (front bytes : List ℕ) → All IsInline is → Spells bytes is → s.code ≡ front ++ bytes → s.pc ≡ 0x100000000 + length front → (replies : List Replied) → run (length is + k) s replies ≡ follow is (run k) s replies
+pub runs : (is : List Instr) (k : ℕ) (s : State) (front bytes : List ℕ) → All IsInline is → Spells bytes is → Stands s front bytes → (replies : List Replied)
+    → run (length is + k) s replies ≡ follow is (run k) s replies
 unfolding run
-runs [] k s front bytes row spelled code at replies = ap (λ n. run n s replies) (zero-add k)
-runs (i ∷ is) k s front bytes row (w, rest, all, stands, more) code at replies =
+runs [] k s front bytes row spelled at replies = ap (λ n. run n s replies) (zero-add k)
+runs (i ∷ is) k s front bytes row (w, rest, all, stands, more) at replies =
     let e : suc (length is) + k ≡ suc (length is + k) = omega arith in
-    let found = fetches s front rest w (word_small w i stands) (code ∙ ap (λ b. front ++ b) all) at in
-    let stp = stepped s w i found stands in
-    ap (λ n. run n s replies) e ∙ ap (λ c. continue c (run (length is + k)) replies) stp ∙ continue_same s (act i s) (run (length is + k)) (follow is (run k)) replies (goes_next i s (All-head IsInline i is row)) (λ t next rs. runs is k t (front ++ to_le_bytes w32 w) rest (All-tail IsInline i is row) more (next.code ∙ code ∙ ap (λ b. front ++ b) all ∙ sym (append_assoc front _ rest)) (let moved : t.pc ≡ s.pc + 4 = next.pc in let longer = length-append front (to_le_bytes w32 w) in omega arith) rs)
+    let here = subst (Stands s front) all at in
+    let found = fetches s front rest w (word_small w i stands) here.code here.pc in
+    let row' = All-tail IsInline i is row in
+    ap (λ n. run n s replies) e
+    ∙ ap (λ c. continue c (run (length is + k)) replies) (stepped s w i found stands)
+    ∙ continue_same s (act i s) (run (length is + k)) (follow is (run k)) replies (goes_next i s (All-head IsInline i is row))
+    (λ t next rs. runs is k t (front ++ to_le_bytes w32 w) rest row' more (stands_next s t front rest w here next) rs)

@@ -130,8 +130,10 @@ store_performs a e x y first second gives_a gives_e small f g = record {
         ready = record { registers = ap length m.registers ∙ length-set (l.state).registers 6 y ∙ many; below = below };
         same = λ go v w ok.
             let is = stored_is a e x y gives_a gives_e v w in
-            ap (λ (run : State → List Replied → Behaviour). shown w (run s w.replies)) (follow_append (first ++ second) (sd ∷ []) go ∙ follow_append first second (follow (sd ∷ []) go))
-            ∙ ap (shown w) (l.silent (follow second (follow (sd ∷ []) go)) w.replies ∙ m.silent (follow (sd ∷ []) go) w.replies)
+            let last = follow (sd ∷ []) go in
+            let parts = follow_append (first ++ second) (sd ∷ []) go ∙ follow_append first second last in
+            ap (λ (run : State → List Replied → Behaviour). shown w (run s w.replies)) parts
+            ∙ ap (shown w) (l.silent (follow second last) w.replies ∙ m.silent last w.replies)
             ∙ stored_same (is_shared size.B8 x) x y t v w go refl (stores t x y small holds below) (subst (λ (o : Outcome Scopes Value). (shown_after o (go (next t))).ending ≢ Fails) is ok)
             ∙ ap (λ (o : Outcome Scopes Value). shown_after o (go (next t))) (sym is);
       };

@@ -84,7 +84,7 @@ module _ (program : Program) (main : Function) (functions : program.functions �
         let is = ap (λ (s : Seen). s.behaviour) (source_is memory replies n) in
         let ok' = subst (λ (b : Behaviour). b.ending ≢ Fails) is ok in
         let end = finished (outcome main memory replies n) (run n p.state) ok' in
-        runs instrs n from [] code performs.row spells refl (omega arith) replies
+        runs instrs n from [] code performs.row spells (record { code = refl; pc = omega arith }) replies
         ∙ p.same (run n) ([] ∷ []) (entered (cost main) (start memory replies n)) (subst (λ (b : Behaviour). b.ending ≢ Fails) (sym end) ok')
         ∙ end ∙ sym is
 
