@@ -13,3 +13,4 @@ pub mod Words
 pub mod Spelling
 pub mod Tokens
 pub mod Lexing
+pub mod Trace

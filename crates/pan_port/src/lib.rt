@@ -1,0 +1,8 @@
+//! What runs and asks, what answers, and the two in one run.
+#![tactic(auto)]
+
+mod asker;
+mod device;
+
+pub use asker::{Advance, Asker, Pause};
+pub use device::{Answer, Device};
