@@ -1,0 +1,3 @@
+mod NumeralLemmas
+mod CommentLemmas
+mod SignLemmas

@@ -1,0 +1,10 @@
+//! From the bytes of a source to its tokens.
+#![tactic(auto)]
+
+mod bytes;
+mod error;
+mod numerals;
+mod signs;
+mod words;
+mod comments;
+pub use error::LexError;
