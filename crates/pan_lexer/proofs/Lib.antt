@@ -1,3 +1,6 @@
+mod FindLemmas
+mod WordLemmas
 mod NumeralLemmas
+mod KindLemmas
 mod CommentLemmas
 mod SignLemmas
