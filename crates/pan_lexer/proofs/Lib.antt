@@ -4,3 +4,4 @@ mod NumeralLemmas
 mod KindLemmas
 mod CommentLemmas
 mod SignLemmas
+mod TokenLemmas

@@ -1,6 +1,6 @@
 -- The longest sign that a text begins with.
-use Rattle.std.proofs.Common.{◌≡◌, ℕ, ◌≤◌, Bool, true, false, not, ◌&&◌, ◌||◌, cond, leb, List, [], ◌∷◌, ◌++◌, drop, take, get_or, length, Option, Some, None, sym, ap, ◌∙◌, subst, refl, arith, length-take}
-use Rattle.std.specs.Prelude.{nat_eq}
+use Rattle.std.proofs.Common.{◌≡◌, ℕ, ◌≤◌, Bool, true, false, not, ◌&&◌, ◌||◌, cond, leb, List, [], ◌∷◌, ◌++◌, drop, take, get_or, length, Option, Some, None, sym, ap, ◌∙◌, subst, refl, arith, length-append}
+use Rattle.std.specs.Prelude.{nat_eq, IfSome}
 use Rattle.std.specs.List.{find, list_all, list_any, starts_with}
 use Rattle.std.specs.Str.{bytes_eq}
 use Rattle.std.proofs.Math.Seq.{take-append_seam, drop-append_seam}
@@ -157,3 +157,11 @@ sign_given s rest longest =
       let down : length (sign_text t) ≤ length (sign_text s) = at_most (begins bytes) s t there (each_sign (no_longer (begins bytes) s) tests t) in
       let same : length (sign_text s) ≡ length (sign_text t) = omega arith in
       e ∙ ap Some (sym (same_sign bytes s t here there same)))
+
+pub sign_within : (bytes : List ℕ) (s : Sign) → sign_of bytes ≡ Some s → length (sign_text s) ≤ length bytes
+sign_within bytes s e =
+    omega (arith, ap length (sign_at bytes s e).all, length-append (sign_text s) (drop (length (sign_text s)) bytes))
+
+pub sign_within_some : (bytes : List ℕ) (o : Option Sign) → o ≡ sign_of bytes → IfSome o (λ s. length (sign_text s) ≤ length bytes)
+sign_within_some bytes None e = tt
+sign_within_some bytes (Some s) e = sign_within bytes s (sym e)
