@@ -138,3 +138,133 @@ token_found (b ∷ bs) t e =
     same)
     same)
     e
+
+-- ---- and what is there is given
+
+hex_digit_is_word : (b : ℕ) → is_hex_digit b ≡ true → is_word_byte b ≡ true
+hex_digit_is_word b h = grind (arith, nat_tests)
+
+letter_no_digit : (b : ℕ) → is_letter b ≡ true → is_digit b ≡ false
+letter_no_digit b h = grind (arith, nat_tests)
+
+all_words : (p : ℕ → Bool) → ((b : ℕ) → p b ≡ true → is_word_byte b ≡ true) → (bytes : List ℕ) → list_all p bytes ≡ true → list_all is_word_byte bytes ≡ true
+all_words p each [] all = refl
+all_words p each (b ∷ bs) all =
+    let parts = both_true (p b) (list_all p bs) all in
+    rw (each b parts.0, all_words p each bs parts.1) refl
+
+-- a numeral is a word that begins with a digit
+numeral_word : (text : List ℕ) (n : ℕ) → IsNumeral text n → (b : ℕ) × (bs : List ℕ) × (text ≡ b ∷ bs) × (is_digit b ≡ true) × (list_all is_word_byte (b ∷ bs) ≡ true)
+numeral_word text n (Decimal d ds is all value) =
+    (d, ds, is, (both_true (is_digit d) (list_all is_digit ds) all).0, all_words is_digit digit_is_word (d ∷ ds) all)
+numeral_word text n (Hexadecimal d ds is all value) =
+    (48, 120 ∷ d ∷ ds, is, refl, all_words is_hex_digit hex_digit_is_word (d ∷ ds) all)
+
+number_step : (b : ℕ) (bs : List ℕ) → is_digit b ≡ true → token_of (b ∷ bs) ≡ number_token (b ∷ bs)
+unfolding token_of
+number_step b bs first = rw first refl
+
+number_token_is : (word rest : List ℕ) (n : ℕ) → list_all is_word_byte word ≡ true → begins_no_word rest ≡ true → number_of word ≡ Some n → number_token (word ++ rest) ≡ Some (Number n, rest)
+unfolding number_token
+number_token_is word rest n all end value =
+    ap (λ after. option_map (λ n. (Number n, after)) (number_of (word_of (word ++ rest)))) (after_word_is word rest all end)
+    ∙ ap (λ word. option_map (λ n. (Number n, rest)) (number_of word)) (word_is word rest all end)
+    ∙ ap (option_map (λ n. (Number n, rest))) value
+
+number_given : (text rest : List ℕ) (n : ℕ) → IsNumeral text n → n < 2 ^ 64 → begins_no_word rest ≡ true → token_of (text ++ rest) ≡ Some (Number n, rest)
+number_given text rest n numeral small end =
+    let w = numeral_word text n numeral in
+    let value : number_of (w.0 ∷ w.1) ≡ Some n = ap number_of (sym w.2) ∙ number_of_spelled text n numeral small in
+    ap (λ text. token_of (text ++ rest)) w.2 ∙ number_step w.0 (w.1 ++ rest) w.3 ∙ number_token_is (w.0 ∷ w.1) rest n w.4 end value
+
+word_step : (b : ℕ) (bs : List ℕ) → is_letter b ≡ true → token_of (b ∷ bs) ≡ word_token (b ∷ bs)
+unfolding token_of
+word_step b bs first = rw (letter_no_digit b first, first) refl
+
+word_token_is : (word rest : List ℕ) → list_all is_word_byte word ≡ true → begins_no_word rest ≡ true → word_token (word ++ rest) ≡ Some (named word (keyword_of word), rest)
+unfolding word_token
+word_token_is word rest all end =
+    ap (λ after. Some (named (word_of (word ++ rest)) (keyword_of (word_of (word ++ rest))), after)) (after_word_is word rest all end)
+    ∙ ap (λ word. Some (named word (keyword_of word), rest)) (word_is word rest all end)
+
+word_given : (word rest : List ℕ) → is_spelled word ≡ true → begins_no_word rest ≡ true → token_of (word ++ rest) ≡ Some (named word (keyword_of word), rest)
+word_given [] rest spelled end = absurd (cc)
+word_given (b ∷ bs) rest spelled end =
+    let parts = both_true (is_letter b) (list_all is_word_byte bs) spelled in
+    let all : list_all is_word_byte (b ∷ bs) ≡ true = rw (letter_is_word b parts.0, parts.1) refl in
+    word_step b (bs ++ rest) parts.0 ∙ word_token_is (b ∷ bs) rest all end
+
+foreign_step : (bs : List ℕ) → token_of (64 ∷ bs) ≡ foreign_token bs
+unfolding token_of
+foreign_step bs = refl
+
+foreign_given : (word rest : List ℕ) (k : Kind) → list_all is_word_byte word ≡ true → begins_no_word rest ≡ true → foreign_of word ≡ Some k → token_of (64 ∷ (word ++ rest)) ≡ Some (k, rest)
+unfolding foreign_token
+foreign_given word rest k all end value =
+    foreign_step (word ++ rest)
+    ∙ ap (λ after. option_map (λ k. (k, after)) (foreign_of (word_of (word ++ rest)))) (after_word_is word rest all end)
+    ∙ ap (λ word. option_map (λ k. (k, rest)) (foreign_of word)) (word_is word rest all end)
+    ∙ ap (option_map (λ k. (k, rest))) value
+
+access_step : (bs : List ℕ) → token_of (33 ∷ bs) ≡ or_else (access_token bs) (sign_token (33 ∷ bs))
+unfolding token_of
+access_step bs = refl
+
+access_token_is : (word rest : List ℕ) (k : Kind) → list_all is_word_byte word ≡ true → begins_no_word rest ≡ true → access_of word ≡ Some k → access_token (word ++ rest) ≡ Some (k, rest)
+unfolding access_token
+access_token_is word rest k all end value =
+    ap (λ after. option_map (λ k. (k, after)) (access_of (word_of (word ++ rest)))) (after_word_is word rest all end)
+    ∙ ap (λ word. option_map (λ k. (k, rest)) (access_of word)) (word_is word rest all end)
+    ∙ ap (option_map (λ k. (k, rest))) value
+
+access_given : (word rest : List ℕ) (k : Kind) → list_all is_word_byte word ≡ true → begins_no_word rest ≡ true → access_of word ≡ Some k → token_of (33 ∷ (word ++ rest)) ≡ Some (k, rest)
+access_given word rest k all end value =
+    access_step (word ++ rest) ∙ ap (λ first. or_else first (sign_token (33 ∷ (word ++ rest)))) (access_token_is word rest k all end value)
+
+load_word : (s : Size) → list_all is_word_byte (codes "ld" ++ bits_text s) ≡ true
+load_word = elim [ B1 ↦ refl | B2 ↦ refl | B4 ↦ refl | B8 ↦ refl ]
+
+store_word : (s : Size) → list_all is_word_byte (codes "st" ++ bits_text s) ≡ true
+store_word = elim [ B1 ↦ refl | B2 ↦ refl | B4 ↦ refl | B8 ↦ refl ]
+
+sign_step : (rest : List ℕ) (s : Sign) → token_of (sign_text s ++ rest) ≡ sign_token (sign_text s ++ rest)
+unfolding token_of access_token access_of word_of
+sign_step rest = elim [
+  sign.OpenParen ↦ refl | sign.CloseParen ↦ refl | sign.OpenBrace ↦ refl | sign.CloseBrace ↦ refl | sign.Less ↦ refl | sign.Greater ↦ refl
+  | sign.Comma ↦ refl | sign.Semicolon ↦ refl | sign.Dot ↦ refl | sign.Assign ↦ refl | sign.Plus ↦ refl | sign.Minus ↦ refl | sign.Star ↦ refl
+  | sign.And ↦ refl | sign.Or ↦ refl | sign.Xor ↦ refl | sign.Equal ↦ refl | sign.NotEqual ↦ refl | sign.NotLess ↦ refl | sign.LessU ↦ refl
+  | sign.NotLessU ↦ refl | sign.ShiftLeft ↦ refl | sign.ShiftRight ↦ refl | sign.ShiftSigned ↦ refl | sign.Rotate ↦ refl ]
+
+sign_given_token : (s : Sign) (rest : List ℕ) → IsLongest (ASign s) rest → token_of (sign_text s ++ rest) ≡ Some (ASign s, rest)
+unfolding sign_token
+sign_given_token s rest longest =
+    sign_step rest s
+    ∙ ap (option_map (λ t. (ASign t, drop (length (sign_text t)) (sign_text s ++ rest)))) (sign_given s rest longest)
+    ∙ ap (λ after. Some (ASign s, after)) (drop-append_seam (sign_text s) rest)
+
+spelled_begins : (word : List ℕ) → is_spelled word ≡ true → (begins_letter word ≡ true) × (list_all is_word_byte word ≡ true)
+spelled_begins [] e = absurd (cc)
+spelled_begins (b ∷ bs) e =
+    let parts = both_true (is_letter b) (list_all is_word_byte bs) e in
+    (parts.0, rw (letter_is_word b parts.0, parts.1) refl)
+
+given : (k : Kind) (text rest : List ℕ) → Spells text k → IsLongest k rest → token_of (text ++ rest) ≡ Some (k, rest)
+given (Name name) text rest spelled end =
+    ap (λ text. token_of (text ++ rest)) spelled.0 ∙ word_given name rest spelled.1 end ∙ ap (λ k. Some (k, rest)) (name_named name spelled.2)
+given (Reserved word) text rest spelled end =
+    ap (λ text. token_of (text ++ rest)) spelled ∙ word_given (keyword_text word) rest (keyword_spelled word) end ∙ ap (λ k. Some (k, rest)) (keyword_named word)
+given (Number n) text rest spelled end = number_given text rest n spelled.0 spelled.1 end
+given (Load s) text rest spelled end =
+    ap (λ text. token_of (text ++ rest)) spelled ∙ access_given (codes "ld" ++ bits_text s) rest (Load s) (load_word s) end (load_found s)
+given (Store s) text rest spelled end =
+    ap (λ text. token_of (text ++ rest)) spelled ∙ access_given (codes "st" ++ bits_text s) rest (Store s) (store_word s) end (store_found s)
+given (Foreign name) text rest spelled end =
+    let parts = spelled_begins name spelled.1 in
+    ap (λ text. token_of (text ++ rest)) spelled.0 ∙ foreign_given name rest (Foreign name) parts.1 end (foreign_found name parts.0 spelled.2 spelled.3)
+given Base text rest spelled end = ap (λ text. token_of (text ++ rest)) spelled ∙ foreign_given (codes "base") rest Base refl end base_found
+given Biw text rest spelled end = ap (λ text. token_of (text ++ rest)) spelled ∙ foreign_given (codes "biw") rest Biw refl end biw_found
+given (ASign s) text rest spelled longest = ap (λ text. token_of (text ++ rest)) spelled ∙ sign_given_token s rest longest
+
+-- what is there is given
+pub token_given : (bytes rest : List ℕ) (k : Kind) → TokenAt bytes k rest → token_of bytes ≡ Some (k, rest)
+token_given bytes rest k at = ap token_of at.all ∙ given k at.text rest at.spelled at.longest
