@@ -5,3 +5,5 @@ mod KindLemmas
 mod CommentLemmas
 mod SignLemmas
 mod TokenLemmas
+mod PieceLemmas
+mod RowLemmas

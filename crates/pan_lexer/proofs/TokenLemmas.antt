@@ -154,7 +154,7 @@ all_words p each (b ∷ bs) all =
     rw (each b parts.0, all_words p each bs parts.1) refl
 
 -- a numeral is a word that begins with a digit
-numeral_word : (text : List ℕ) (n : ℕ) → IsNumeral text n → (b : ℕ) × (bs : List ℕ) × (text ≡ b ∷ bs) × (is_digit b ≡ true) × (list_all is_word_byte (b ∷ bs) ≡ true)
+pub numeral_word : (text : List ℕ) (n : ℕ) → IsNumeral text n → (b : ℕ) × (bs : List ℕ) × (text ≡ b ∷ bs) × (is_digit b ≡ true) × (list_all is_word_byte (b ∷ bs) ≡ true)
 numeral_word text n (Decimal d ds is all value) =
     (d, ds, is, (both_true (is_digit d) (list_all is_digit ds) all).0, all_words is_digit digit_is_word (d ∷ ds) all)
 numeral_word text n (Hexadecimal d ds is all value) =

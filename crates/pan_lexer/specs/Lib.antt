@@ -1,3 +1,4 @@
 pub mod Pieces
 pub mod Refusal
 pub mod TokenRow
+pub mod Laws

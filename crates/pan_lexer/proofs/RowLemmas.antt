@@ -1,0 +1,95 @@
+-- A text has one row of tokens at most, and is stuck at one place at most.
+use Rattle.std.proofs.Common.{◌≡◌, ℕ, suc, ◌+◌, ◌-◌, ◌<◌, ◌≤◌, List, [], ◌∷◌, ◌++◌, length, Option, Some, None, sym, ap, ◌∙◌, subst, refl, inl, inr, arith, length-append}
+use Rattle.std.specs.Prelude.{◌⊎◌}
+use Rattle.pan_base.specs.declared.span.Span.{Span}
+use Rattle.pan_base.specs.Tokens.{Kind, Placed, Spells, IsLongest}
+use Rattle.pan_base.specs.Lexing.{IsGap, Row, Here, Gap, Next, Lexes, IsStuck, IsStuckAt}
+use Rattle.pan_lexer.specs.Pieces.{piece_of}
+use Rattle.pan_lexer.specs.Laws.{OneRow, NoRowWhereStuck, OneStuckPlace, RowOrStuck}
+use Rattle.pan_lexer.specs.TokenRow.{IsInOrder}
+use Rattle.pan_lexer.proofs.FindLemmas.{none_or_some}
+use Rattle.pan_lexer.proofs.TokenLemmas.{TokenAt}
+use Rattle.pan_lexer.proofs.CommentLemmas.{GapAt}
+use Rattle.pan_lexer.proofs.PieceLemmas.{PieceAt, piece_found, piece_given, piece_shorter, token_length}
+
+-- the place of the token before these bytes
+token_span : ℕ → List ℕ → List ℕ → Span
+token_span at bytes more = record { start = at; end = at + (length bytes - length more) }
+
+-- what a piece adds to the tokens
+abbrev pub tokens_in : Option Kind → ℕ → ℕ → List Placed
+tokens_in None start end = []
+tokens_in (Some k) start end = record { kind = k; span = record { start = start; end = end } } ∷ []
+
+-- a row goes on with this piece
+pub record GoesOn (at : ℕ) (piece : Option Kind) (bytes more : List ℕ) (tokens : List Placed) (rest : List ℕ) : Type 0 where
+  pub others : List Placed
+  pub all : tokens ≡ tokens_in piece at (at + (length bytes - length more)) ++ others
+  pub row : Row (at + (length bytes - length more)) more others rest
+
+taken : (bytes text more : List ℕ) → bytes ≡ text ++ more → length bytes - length more ≡ length text
+taken bytes text more all = omega (arith, ap length all, length-append text more)
+
+goes_on_gap : (at : ℕ) (bytes text more rest : List ℕ) (tokens : List Placed) → bytes ≡ text ++ more → Row (at + length text) more tokens rest → GoesOn at None bytes more tokens rest
+goes_on_gap at bytes text more rest tokens all row = record {
+  others = tokens;
+  all = refl;
+  row = subst (λ n. Row (at + n) more tokens rest) (sym (taken bytes text more all)) row;
+}
+
+goes_on_token : (at : ℕ) (bytes text more rest : List ℕ) (kind : Kind) (tokens : List Placed) → bytes ≡ text ++ more → Row (at + length text) more tokens rest
+    → GoesOn at (Some kind) bytes more (record { kind = kind; span = record { start = at; end = at + length text } } ∷ tokens) rest
+goes_on_token at bytes text more rest kind tokens all row = record {
+  others = tokens;
+  all = ap (λ n. record { kind = kind; span = record { start = at; end = at + n } } ∷ tokens) (sym (taken bytes text more all));
+  row = subst (λ n. Row (at + n) more tokens rest) (sym (taken bytes text more all)) row;
+}
+
+same_piece : (bytes more rest : List ℕ) (k l : Option Kind) → piece_of bytes ≡ Some (k, more) → piece_of bytes ≡ Some (l, rest) → (k ≡ l) × (more ≡ rest)
+same_piece bytes more rest k l one other =
+    let same : ◌≡◌ {A = Option (Option Kind × List ℕ)} (Some (k, more)) (Some (l, rest)) = sym one ∙ other in
+    let pair : ◌≡◌ {A = Option Kind × List ℕ} (k, more) (l, rest) = cc in
+    (ap (λ (p : Option Kind × List ℕ). p.0) pair, ap (λ (p : Option Kind × List ℕ). p.1) pair)
+
+different : {A : Type 0} {a : A} → None ≡ Some a → ⊥
+different e = cc
+
+gap_piece : (bytes text more : List ℕ) → bytes ≡ text ++ more → IsGap text more → piece_of bytes ≡ Some (None, more)
+gap_piece bytes text more all gap = piece_given bytes None more (record { text = text; all = all; gap = gap })
+
+token_piece : (bytes text more : List ℕ) (kind : Kind) → bytes ≡ text ++ more → Spells text kind → IsLongest kind more → piece_of bytes ≡ Some (Some kind, more)
+token_piece bytes text more kind all spelled longest = piece_given bytes (Some kind) more (record { text = text; all = all; spelled = spelled; longest = longest })
+
+same_goes : (at : ℕ) (bytes more after rest : List ℕ) (k l : Option Kind) (tokens : List Placed) → (k ≡ l) × (more ≡ after) → GoesOn at k bytes more tokens rest → GoesOn at l bytes after tokens rest
+same_goes at bytes more after rest k l tokens same goes =
+    subst (λ k. GoesOn at k bytes after tokens rest) same.0 (subst (λ more. GoesOn at k bytes more tokens rest) same.1 goes)
+
+-- every row of a text that begins with the piece, and ends where nothing goes on, goes on with it
+goes : (at : ℕ) (bytes more rest : List ℕ) (piece : Option Kind) (tokens : List Placed) → piece_of bytes ≡ Some (piece, more) → Row at bytes tokens rest → piece_of rest ≡ None → GoesOn at piece bytes more tokens rest
+goes at bytes more rest piece tokens is (Here _ _) ended = absurd (different (sym ended ∙ is))
+goes at bytes more rest piece tokens is (Gap _ _ text after _ _ all gap row) ended =
+    same_goes at bytes after more rest None piece tokens (same_piece bytes after more None piece (gap_piece bytes text after all gap) is) (goes_on_gap at bytes text after rest tokens all row)
+goes at bytes more rest piece _ is (Next _ _ text after _ kind tokens all spelled longest row) ended =
+    same_goes at bytes after more rest (Some kind) piece (record { kind = kind; span = record { start = at; end = at + length text } } ∷ tokens)
+    (same_piece bytes after more (Some kind) piece (token_piece bytes text after kind all spelled longest) is) (goes_on_token at bytes text after rest kind tokens all row)
+
+no_row_more : (at : ℕ) (bytes rest : List ℕ) (tokens : List Placed) → piece_of bytes ≡ None → Row at bytes tokens rest → (tokens ≡ []) × (bytes ≡ rest)
+no_row_more at bytes rest tokens none (Here _ _) = (refl, refl)
+no_row_more at bytes rest tokens none (Gap _ _ text more _ _ all gap row) = absurd (different (sym none ∙ gap_piece bytes text more all gap))
+no_row_more at bytes rest _ none (Next _ _ text more _ kind tokens all spelled longest row) = absurd (different (sym none ∙ token_piece bytes text more kind all spelled longest))
+
+-- rows of one text that end where nothing goes on are one row
+pub same_row : (at : ℕ) (bytes : List ℕ) (a b : List Placed) (rest other : List ℕ) → Row at bytes a rest → piece_of rest ≡ None → Row at bytes b other → piece_of other ≡ None → (a ≡ b) × (rest ≡ other)
+same_row at bytes a b rest other (Here _ _) ended row stops =
+    let r = no_row_more at bytes other b ended row in (sym r.0, r.1)
+same_row at bytes a b rest other (Gap _ _ text more _ _ all gap one) ended row stops =
+    let g = goes at bytes more other None b (gap_piece bytes text more all gap) row stops in
+    let same = same_row (at + length text) more a g.others rest other one ended (subst (λ n. Row (at + n) more g.others other) (taken bytes text more all) g.row) stops in
+    (same.0 ∙ sym g.all, same.1)
+same_row at bytes _ b rest other (Next _ _ text more _ kind tokens all spelled longest one) ended row stops =
+    let g = goes at bytes more other (Some kind) b (token_piece bytes text more kind all spelled longest) row stops in
+    let same = same_row (at + length text) more tokens g.others rest other one ended (subst (λ n. Row (at + n) more g.others other) (taken bytes text more all) g.row) stops in
+    let first : record { kind = kind; span = record { start = at; end = at + length text } } ∷ tokens ≡ tokens_in (Some kind) at (at + (length bytes - length more)) ++ g.others =
+        ap (λ n. record { kind = kind; span = record { start = at; end = at + n } } ∷ tokens) (sym (taken bytes text more all))
+        ∙ ap (λ ts. record { kind = kind; span = record { start = at; end = at + (length bytes - length more) } } ∷ ts) same.0 in
+    (first ∙ sym g.all, same.1)
