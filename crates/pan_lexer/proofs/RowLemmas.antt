@@ -4,7 +4,8 @@ use Rattle.std.specs.Prelude.{◌⊎◌}
 use Rattle.pan_base.specs.declared.span.Span.{Span}
 use Rattle.pan_base.specs.Tokens.{Kind, Placed, Spells, IsLongest}
 use Rattle.pan_base.specs.Lexing.{IsGap, Row, Here, Gap, Next, Lexes, IsStuck, IsStuckAt}
-use Rattle.pan_lexer.specs.Pieces.{piece_of}
+use Rattle.pan_lexer.specs.Found.{tokens_in}
+use Rattle.pan_lexer.specs.Pieces.{piece_of, after_gap, token_of}
 use Rattle.pan_lexer.specs.Laws.{OneRow, NoRowWhereStuck, OneStuckPlace, RowOrStuck}
 use Rattle.pan_lexer.specs.TokenRow.{IsInOrder}
 use Rattle.pan_lexer.proofs.FindLemmas.{none_or_some}
@@ -12,19 +13,14 @@ use Rattle.pan_lexer.proofs.TokenLemmas.{TokenAt}
 use Rattle.pan_lexer.proofs.CommentLemmas.{GapAt}
 use Rattle.pan_lexer.proofs.PieceLemmas.{PieceAt, piece_found, piece_given, piece_shorter, token_length}
 
--- the place of the token before these bytes
-token_span : ℕ → List ℕ → List ℕ → Span
-token_span at bytes more = record { start = at; end = at + (length bytes - length more) }
-
--- what a piece adds to the tokens
-abbrev pub tokens_in : Option Kind → ℕ → ℕ → List Placed
-tokens_in None start end = []
-tokens_in (Some k) start end = record { kind = k; span = record { start = start; end = end } } ∷ []
+-- the place of what stands before this text
+abbrev pub span_before : ℕ → List ℕ → List ℕ → Span
+span_before at bytes more = record { start = at; end = at + (length bytes - length more) }
 
 -- a row goes on with this piece
 pub record GoesOn (at : ℕ) (piece : Option Kind) (bytes more : List ℕ) (tokens : List Placed) (rest : List ℕ) : Type 0 where
   pub others : List Placed
-  pub all : tokens ≡ tokens_in piece at (at + (length bytes - length more)) ++ others
+  pub all : tokens ≡ tokens_in piece (span_before at bytes more) ++ others
   pub row : Row (at + (length bytes - length more)) more others rest
 
 taken : (bytes text more : List ℕ) → bytes ≡ text ++ more → length bytes - length more ≡ length text
@@ -89,7 +85,78 @@ same_row at bytes a b rest other (Gap _ _ text more _ _ all gap one) ended row s
 same_row at bytes _ b rest other (Next _ _ text more _ kind tokens all spelled longest one) ended row stops =
     let g = goes at bytes more other (Some kind) b (token_piece bytes text more kind all spelled longest) row stops in
     let same = same_row (at + length text) more tokens g.others rest other one ended (subst (λ n. Row (at + n) more g.others other) (taken bytes text more all) g.row) stops in
-    let first : record { kind = kind; span = record { start = at; end = at + length text } } ∷ tokens ≡ tokens_in (Some kind) at (at + (length bytes - length more)) ++ g.others =
+    let first : record { kind = kind; span = record { start = at; end = at + length text } } ∷ tokens ≡ tokens_in (Some kind) (span_before at bytes more) ++ g.others =
         ap (λ n. record { kind = kind; span = record { start = at; end = at + n } } ∷ tokens) (sym (taken bytes text more all))
         ∙ ap (λ ts. record { kind = kind; span = record { start = at; end = at + (length bytes - length more) } } ∷ ts) same.0 in
     (first ∙ sym g.all, same.1)
+
+-- ---- where nothing goes on
+
+pub end_piece : piece_of [] ≡ None
+unfolding piece_of after_gap token_of
+end_piece = refl
+
+pub stuck_piece : (rest : List ℕ) → IsStuck rest → piece_of rest ≡ None
+stuck_piece rest stuck =
+    none_or_some (piece_of rest ≡ None) (piece_of rest)
+    (λ none. none)
+    (λ p is. absurd (goes_nowhere rest stuck p.0 p.1 (piece_found rest p is)))
+  where
+    goes_nowhere : (rest : List ℕ) → IsStuck rest → (k : Option Kind) (more : List ℕ) → PieceAt rest k more → ⊥
+    goes_nowhere rest stuck None more at = stuck.no_gap at.text more at.all at.gap
+    goes_nowhere rest stuck (Some k) more at = stuck.no_token at.text more k at.all at.spelled at.longest
+
+pub none_stuck : (rest : List ℕ) → ¬ (rest ≡ []) → piece_of rest ≡ None → IsStuck rest
+none_stuck rest some none = record {
+  there = some;
+  no_gap = λ text more all gap. different (sym none ∙ gap_piece rest text more all gap);
+  no_token = λ text more kind all spelled longest. different (sym none ∙ token_piece rest text more kind all spelled longest);
+}
+
+-- ---- rows that are put together
+
+pub row_within : (at : ℕ) (bytes rest : List ℕ) (tokens : List Placed) → Row at bytes tokens rest → length rest ≤ length bytes
+row_within at bytes rest tokens (Here _ _) = omega arith
+row_within at bytes rest tokens (Gap _ _ text more _ _ all gap row) =
+    omega (arith, row_within (at + length text) more rest tokens row, ap length all, length-append text more)
+row_within at bytes rest _ (Next _ _ text more _ kind tokens all spelled longest row) =
+    omega (arith, row_within (at + length text) more rest tokens row, ap length all, length-append text more)
+
+same_place : (at : ℕ) (bytes text more middle : List ℕ) → bytes ≡ text ++ more → length middle ≤ length more → at + (length bytes - length middle) ≡ at + length text + (length more - length middle)
+same_place at bytes text more middle all within = omega (arith, ap length all, length-append text more)
+
+-- one row, and another from where it ends
+pub row_append : (at : ℕ) (bytes middle rest : List ℕ) (ts us : List Placed) → Row at bytes ts middle → Row (at + (length bytes - length middle)) middle us rest → Row at bytes (ts ++ us) rest
+row_append at bytes middle rest ts us (Here _ _) other =
+    let same : at + (length bytes - length middle) ≡ at = omega arith in
+    subst (λ n. Row n bytes us rest) same other
+row_append at bytes middle rest ts us (Gap _ _ text more _ _ all gap row) other =
+    let within = row_within (at + length text) more middle ts row in
+    Gap at bytes text more rest (ts ++ us) all gap
+    (row_append (at + length text) more middle rest ts us row (subst (λ n. Row n middle us rest) (same_place at bytes text more middle all within) other))
+row_append at bytes middle rest _ us (Next _ _ text more _ kind ts all spelled longest row) other =
+    let within = row_within (at + length text) more middle ts row in
+    Next at bytes text more rest kind (ts ++ us) all spelled longest
+    (row_append (at + length text) more middle rest ts us row (subst (λ n. Row n middle us rest) (same_place at bytes text more middle all within) other))
+
+-- a row of one piece
+row_piece : (at : ℕ) (bytes more : List ℕ) (k : Option Kind) → PieceAt bytes k more → Row at bytes (tokens_in k (span_before at bytes more)) more
+row_piece at bytes more None piece = Gap at bytes piece.text more more [] piece.all piece.gap (Here (at + length piece.text) more)
+row_piece at bytes more (Some k) piece =
+    subst (λ n. Row at bytes (record { kind = k; span = record { start = at; end = at + n } } ∷ []) more) (sym (taken bytes piece.text more piece.all))
+    (Next at bytes piece.text more more k [] piece.all piece.spelled piece.longest (Here (at + length piece.text) more))
+
+-- one piece more at the end of a row
+pub row_more : (bytes rest more : List ℕ) (tokens : List Placed) (k : Option Kind) → Row 0 bytes tokens rest → piece_of rest ≡ Some (k, more)
+    → Row 0 bytes (tokens ++ tokens_in k (record { start = length bytes - length rest; end = length bytes - length more })) more
+row_more bytes rest more tokens k row is =
+    let piece : PieceAt rest k more = piece_found rest (k, more) is in
+    let within : length rest ≤ length bytes = row_within 0 bytes rest tokens row in
+    let shorter : length more < length rest = piece_shorter rest k more piece in
+    let start : 0 + (length bytes - length rest) ≡ length bytes - length rest = omega arith in
+    let end : length bytes - length rest + (length rest - length more) ≡ length bytes - length more = omega arith in
+    let new : List Placed = tokens_in k (record { start = length bytes - length rest; end = length bytes - length more }) in
+    let one : Row (length bytes - length rest) rest new more =
+        subst (λ n. Row (length bytes - length rest) rest (tokens_in k (record { start = length bytes - length rest; end = n })) more) end
+        (row_piece (length bytes - length rest) rest more k piece) in
+    row_append 0 bytes rest more tokens new row (subst (λ n. Row n rest new more) (sym start) one)

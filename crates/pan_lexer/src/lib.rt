@@ -4,6 +4,7 @@
 mod bytes;
 mod error;
 mod numerals;
+mod pieces;
 mod signs;
 mod words;
 mod comments;
