@@ -1,5 +1,5 @@
 -- A text has one row of tokens at most, and is stuck at one place at most.
-use Rattle.std.proofs.Common.{◌≡◌, ℕ, suc, ◌+◌, ◌-◌, ◌<◌, ◌≤◌, List, [], ◌∷◌, ◌++◌, length, Option, Some, None, sym, ap, ◌∙◌, subst, refl, inl, inr, arith, length-append}
+use Rattle.std.proofs.Common.{◌≡◌, ℕ, zero, suc, ◌+◌, ◌-◌, ◌<◌, ◌≤◌, List, [], ◌∷◌, ◌++◌, length, Option, Some, None, sym, ap, ◌∙◌, subst, refl, inl, inr, arith, length-append}
 use Rattle.std.specs.Prelude.{◌⊎◌}
 use Rattle.pan_base.specs.declared.span.Span.{Span}
 use Rattle.pan_base.specs.Tokens.{Kind, Placed, Spells, IsLongest}
@@ -160,3 +160,81 @@ row_more bytes rest more tokens k row is =
         subst (λ n. Row (length bytes - length rest) rest (tokens_in k (record { start = length bytes - length rest; end = n })) more) end
         (row_piece (length bytes - length rest) rest more k piece) in
     row_append 0 bytes rest more tokens new row (subst (λ n. Row n rest new more) (sym start) one)
+
+-- ---- places
+
+in_order_from : (from at end : ℕ) (tokens : List Placed) → from ≤ at → IsInOrder at tokens end → IsInOrder from tokens end
+in_order_from from at end [] below order = omega arith
+in_order_from from at end (t ∷ ts) below order = let start : from ≤ t.span.start = omega (arith, order.0) in (start, order.1, order.2)
+
+-- the tokens of a row stand in order within the text
+pub row_in_order : (at : ℕ) (bytes rest : List ℕ) (tokens : List Placed) → Row at bytes tokens rest → IsInOrder at tokens (at + length bytes)
+row_in_order at bytes rest tokens (Here _ _) = omega arith
+row_in_order at bytes rest tokens (Gap _ _ text more _ _ all gap row) =
+    let end : at + length text + length more ≡ at + length bytes = omega (arith, ap length all, length-append text more) in
+    let below : at ≤ at + length text = omega arith in
+    subst (λ n. IsInOrder at tokens n) end (in_order_from at (at + length text) (at + length text + length more) tokens below (row_in_order (at + length text) more rest tokens row))
+row_in_order at bytes rest _ (Next _ _ text more _ kind tokens all spelled longest row) =
+    let end : at + length text + length more ≡ at + length bytes = omega (arith, ap length all, length-append text more) in
+    let start : at ≤ at = omega arith in
+    let some : at < at + length text = omega (arith, token_length kind text spelled) in
+    (start, some, subst (λ n. IsInOrder (at + length text) tokens n) end (row_in_order (at + length text) more rest tokens row))
+
+-- ---- the laws
+
+pub one_row : OneRow
+one_row bytes a b one other = (same_row 0 bytes a b [] [] one end_piece other end_piece).0
+
+pub one_stuck_place : OneStuckPlace
+one_stuck_place bytes rest other p q one two =
+    let same : rest ≡ other = (same_row 0 bytes one.tokens two.tokens rest other one.row (stuck_piece rest one.stuck) two.row (stuck_piece other two.stuck)).1 in
+    let place : p ≡ q = omega (arith, one.at, two.at, ap length same) in
+    (place, same)
+
+pub no_row_where_stuck : NoRowWhereStuck
+no_row_where_stuck bytes rest place tokens stuck row =
+    let same : rest ≡ [] = (same_row 0 bytes stuck.tokens tokens rest [] stuck.row (stuck_piece rest stuck.stuck) row end_piece).1 in
+    stuck.stuck.there same
+
+-- the row up to where nothing goes on
+record Whole (at : ℕ) (bytes : List ℕ) : Type 0 where
+  tokens : List Placed
+  rest : List ℕ
+  row : Row at bytes tokens rest
+  ended : piece_of rest ≡ None
+
+whole : (n at : ℕ) (bytes : List ℕ) → length bytes ≤ n → Whole at bytes
+whole zero at bytes small =
+    none_or_some (Whole at bytes) (piece_of bytes)
+    (λ none. record { tokens = []; rest = bytes; row = Here at bytes; ended = none })
+    (λ p is. absurd (omega (arith, small, piece_shorter bytes p.0 p.1 (piece_found bytes p is))))
+whole (suc n) at bytes small =
+    none_or_some (Whole at bytes) (piece_of bytes)
+    (λ none. record { tokens = []; rest = bytes; row = Here at bytes; ended = none })
+    (λ p is.
+      let piece : PieceAt bytes p.0 p.1 = piece_found bytes p is in
+      let shorter : length p.1 < length bytes = piece_shorter bytes p.0 p.1 piece in
+      let more = whole n (at + (length bytes - length p.1)) p.1 (omega arith) in
+      record {
+        tokens = tokens_in p.0 (span_before at bytes p.1) ++ more.tokens;
+        rest = more.rest;
+        row = row_append at bytes p.1 more.rest (tokens_in p.0 (span_before at bytes p.1)) more.tokens (row_piece at bytes p.1 p.0 piece) more.row;
+        ended = more.ended;
+      })
+
+pub stuck_at : (bytes rest : List ℕ) (tokens : List Placed) → Row 0 bytes tokens rest → piece_of rest ≡ None → ¬ (rest ≡ []) → IsStuckAt bytes (length bytes - length rest) rest
+stuck_at bytes rest tokens row ended some = record {
+  tokens = tokens;
+  row = row;
+  at = omega (arith, row_within 0 bytes rest tokens row);
+  stuck = none_stuck rest some ended;
+}
+
+pub row_or_stuck : RowOrStuck
+row_or_stuck bytes = by_rest w.rest w.tokens w.row w.ended
+  where
+    w : Whole 0 bytes
+    w = whole (length bytes) 0 bytes (omega arith)
+    by_rest : (rest : List ℕ) (tokens : List Placed) → Row 0 bytes tokens rest → piece_of rest ≡ None → ((tokens : List Placed) × Lexes bytes tokens) ⊎ ((place : ℕ) × (rest : List ℕ) × IsStuckAt bytes place rest)
+    by_rest [] tokens row ended = inl (tokens, row)
+    by_rest (b ∷ bs) tokens row ended = inr (length bytes - length (b ∷ bs), b ∷ bs, stuck_at bytes (b ∷ bs) tokens row ended (λ e. let no_end : b ∷ bs ≡ [] = e in cc))

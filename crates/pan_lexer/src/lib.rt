@@ -2,10 +2,15 @@
 #![tactic(auto)]
 
 mod bytes;
+mod comments;
 mod error;
+mod laws;
 mod numerals;
 mod pieces;
 mod signs;
+mod tokens;
 mod words;
-mod comments;
+
 pub use error::LexError;
+pub use laws::{no_row_where_stuck, one_row, one_stuck_place, row_or_stuck};
+pub use tokens::Tokens;
