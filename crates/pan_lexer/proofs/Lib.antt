@@ -7,3 +7,4 @@ mod SignLemmas
 mod TokenLemmas
 mod PieceLemmas
 mod RowLemmas
+mod RefusalLemmas

@@ -1,6 +1,7 @@
 -- A text has one row of tokens at most, and is stuck at one place at most.
-use Rattle.std.proofs.Common.{◌≡◌, ℕ, zero, suc, ◌+◌, ◌-◌, ◌<◌, ◌≤◌, List, [], ◌∷◌, ◌++◌, length, Option, Some, None, sym, ap, ◌∙◌, subst, refl, inl, inr, arith, length-append}
+use Rattle.std.proofs.Common.{◌≡◌, ℕ, zero, suc, ◌+◌, ◌-◌, ◌<◌, ◌≤◌, true, false, ◌==◌, List, [], ◌∷◌, ◌++◌, length, Option, Some, None, sym, ap, ◌∙◌, subst, refl, inl, inr, arith, length-append}
 use Rattle.std.specs.Prelude.{◌⊎◌}
+use Rattle.std.proofs.lemmas.Bool.Decides.{Decides-eqb}
 use Rattle.pan_base.specs.declared.span.Span.{Span}
 use Rattle.pan_base.specs.Tokens.{Kind, Placed, Spells, IsLongest}
 use Rattle.pan_base.specs.Lexing.{IsGap, Row, Here, Gap, Next, Lexes, IsStuck, IsStuckAt}
@@ -238,3 +239,36 @@ row_or_stuck bytes = by_rest w.rest w.tokens w.row w.ended
     by_rest : (rest : List ℕ) (tokens : List Placed) → Row 0 bytes tokens rest → piece_of rest ≡ None → ((tokens : List Placed) × Lexes bytes tokens) ⊎ ((place : ℕ) × (rest : List ℕ) × IsStuckAt bytes place rest)
     by_rest [] tokens row ended = inl (tokens, row)
     by_rest (b ∷ bs) tokens row ended = inr (length bytes - length (b ∷ bs), b ∷ bs, stuck_at bytes (b ∷ bs) tokens row ended (λ e. let no_end : b ∷ bs ≡ [] = e in cc))
+
+-- ---- the loop
+
+-- the tokens so far, and what is left
+pub record ScannedSo (bytes rest : List ℕ) (tokens : List Placed) : Type 0 where
+  pub row : Row 0 bytes tokens rest
+  pub within : length rest ≤ length bytes
+
+pub scanned_none : (bytes : List ℕ) → ScannedSo bytes bytes []
+scanned_none bytes = record { row = Here 0 bytes; within = omega arith }
+
+pub scanned_more : (bytes rest more : List ℕ) (tokens : List Placed) (k : Option Kind) → piece_of rest ≡ Some (k, more) → ScannedSo bytes rest tokens
+    → ScannedSo bytes more (tokens ++ tokens_in k (record { start = length bytes - length rest; end = length bytes - length more }))
+scanned_more bytes rest more tokens k is so = record {
+  row = row_more bytes rest more tokens k so.row is;
+  within = omega (arith, so.within, piece_shorter rest k more (piece_found rest (k, more) is));
+}
+
+pub scanned_shorter : (rest more : List ℕ) (k : Option Kind) → piece_of rest ≡ Some (k, more) → length more < length rest
+scanned_shorter rest more k is = piece_shorter rest k more (piece_found rest (k, more) is)
+
+is_empty_text : (bytes : List ℕ) → true ≡ (length bytes == 0) → bytes ≡ []
+is_empty_text [] is = refl
+is_empty_text (b ∷ bs) is = let none : suc (length bs) ≡ 0 = (Decides-eqb (length (b ∷ bs)) 0).0 (sym is) in absurd (omega arith)
+
+no_empty_text : (bytes : List ℕ) → false ≡ (length bytes == 0) → ¬ (bytes ≡ [])
+no_empty_text bytes is none = let never : false ≡ true = is ∙ ap (λ (bytes : List ℕ). length bytes == 0) none in cc
+
+pub scanned_all : (bytes rest : List ℕ) (tokens : List Placed) → true ≡ (length rest == 0) → ScannedSo bytes rest tokens → Lexes bytes tokens
+scanned_all bytes rest tokens none so = subst (λ rest. Row 0 bytes tokens rest) (is_empty_text rest none) so.row
+
+pub scanned_stuck : (bytes rest : List ℕ) (tokens : List Placed) → false ≡ (length rest == 0) → piece_of rest ≡ None → ScannedSo bytes rest tokens → IsStuckAt bytes (length bytes - length rest) rest
+scanned_stuck bytes rest tokens some none so = stuck_at bytes rest tokens so.row none (no_empty_text rest some)

@@ -1,5 +1,5 @@
 -- What a source is refused for.
-use Rattle.std.specs.Prelude.{ℕ, ◌<◌, ◌≤◌, ◌&&◌, not, Bool, List, length, IsTrue}
+use Rattle.std.specs.Prelude.{◌≡◌, ℕ, ◌<◌, ◌≤◌, ◌&&◌, not, Bool, if◌then◌else◌, List, length, IsTrue}
 use Rattle.pan_base.specs.Lexing.{IsStuckAt, begins_number, begins_block}
 use Rattle.pan_lexer.specs.TokenRow.{source_limit}
 use Rattle.pan_lexer.specs.declared.error.LexError.{LexError}
@@ -23,3 +23,11 @@ Refusal bytes (BadByte place) = IsRefusedAt bytes place begins_other
 Refusal bytes (BadNumber place) = IsRefusedAt bytes place begins_number
 Refusal bytes (OpenComment place) = IsRefusedAt bytes place begins_block
 Refusal bytes NoMemory = ⊥
+
+-- the reason why nothing goes on at the place, where this begins
+abbrev pub error_at : ℕ → List ℕ → LexError
+error_at place rest = if begins_number rest then BadNumber place else (if begins_block rest then OpenComment place else BadByte place)
+
+-- nothing goes on at a place of the text, and this is the reason
+abbrev pub IsStuckBy : List ℕ → LexError → Type 0
+IsStuckBy bytes e = (place : ℕ) × (rest : List ℕ) × IsStuckAt bytes place rest × (e ≡ error_at place rest)

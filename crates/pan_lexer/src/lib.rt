@@ -5,6 +5,7 @@ mod bytes;
 mod comments;
 mod error;
 mod laws;
+mod lexing;
 mod numerals;
 mod pieces;
 mod signs;
@@ -13,4 +14,5 @@ mod words;
 
 pub use error::LexError;
 pub use laws::{no_row_where_stuck, one_row, one_stuck_place, row_or_stuck};
+pub use lexing::{MAX_SOURCE_LEN, lex};
 pub use tokens::Tokens;
