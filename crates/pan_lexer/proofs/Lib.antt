@@ -1,0 +1,10 @@
+mod FindLemmas
+mod WordLemmas
+mod NumeralLemmas
+mod KindLemmas
+mod CommentLemmas
+mod SignLemmas
+mod TokenLemmas
+mod PieceLemmas
+mod RowLemmas
+mod RefusalLemmas

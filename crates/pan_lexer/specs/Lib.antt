@@ -1,0 +1,5 @@
+pub mod Pieces
+pub mod Found
+pub mod Refusal
+pub mod TokenRow
+pub mod Laws
