@@ -14,3 +14,4 @@ pub mod Spelling
 pub mod Tokens
 pub mod Lexing
 pub mod Trace
+pub mod Pieces

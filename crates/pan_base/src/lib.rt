@@ -19,6 +19,7 @@ mod span;
 mod tests;
 mod text;
 mod tokens;
+mod trace;
 
 pub use blob::Blob;
 pub use error::NoMemory;
@@ -36,3 +37,4 @@ pub use span::Span;
 pub use sqlite_items::{Boxed, Items as List};
 pub use text::Text;
 pub use tokens::{Keyword, Sign, Token, TokenKind};
+pub use trace::{write_end, write_event};

@@ -1,8 +1,9 @@
 //! What no contract says: values from outside, and that calls succeed.
 
 use crate::{
-    BinOp, Blob, Cmp, Failing, FileError, LineCount, List, MemFiles, MemSink, RealFiles, RealOut,
-    Reply, Request, ShOp, Sink, SinkFault, Size, Text, Workspace, fits, put_all,
+    BinOp, Blob, Cmp, End, Failing, FileError, LineCount, List, MemFiles, MemSink, RealFiles,
+    RealOut, Reply, Request, ShOp, Sink, SinkFault, Size, Text, Workspace, fits, put_all,
+    write_end, write_event,
 };
 use std::alloc::Global;
 use std::fs::{self, File};
@@ -96,6 +97,82 @@ fn lines(rt: HostRuntime) -> Result<(), Fail> {
     let mut count = LineCount::new();
     put_all(&mut count, b"a\nb\n")?;
     assert_eq!(rt; count.lines(), 2);
+    Ok(())
+}
+
+/// The line of an event, put into memory.
+fn event_text(alloc: Global, request: Request<'_>, reply: Reply<'_>) -> Result<MemSink, Fail> {
+    let mut sink = MemSink::new(alloc, 100, List::new(alloc))?;
+    if fits(&request, &reply) {
+        write_event(&mut sink, &request, &reply)?;
+    }
+    Ok(sink)
+}
+
+#[test]
+fn lines_of_events(rt: HostRuntime) -> Result<(), Fail> {
+    let addr = 0x4000_0000;
+    let load = Request::Load {
+        size: Size::B1,
+        addr,
+    };
+    let store = Request::Store {
+        size: Size::B8,
+        addr,
+        value: 5,
+    };
+    let swap = Request::Foreign {
+        number: 0,
+        name: b"swap",
+        conf: &[1, 2, 3, 4],
+        array: &[3, 4, 5, 6],
+    };
+    let empty = Request::Foreign {
+        number: 0,
+        name: b"swap",
+        conf: b"",
+        array: b"",
+    };
+    for (request, reply, want) in [
+        (
+            load,
+            Reply::Value(1),
+            "ld8 0x0000000040000000 0x0000000000000001\n",
+        ),
+        (
+            store,
+            Reply::Done,
+            "st64 0x0000000040000000 0x0000000000000005\n",
+        ),
+        (
+            swap,
+            Reply::Bytes(&[1, 2, 3, 4]),
+            "call swap 01020304 03040506 01020304\n",
+        ),
+        (empty, Reply::Bytes(b""), "call swap - - -\n"),
+    ] {
+        let sink = event_text(rt.alloc(), request, reply)?;
+        assert_eq!(rt; sink.bytes(), want.as_bytes(), "{want}");
+    }
+    Ok(())
+}
+
+#[test]
+fn lines_of_ends(rt: HostRuntime) -> Result<(), Fail> {
+    for (end, want) in [
+        (End::Exit(u64::MAX), "exit 0xffffffffffffffff\n"),
+        (End::Uncaught(1), "uncaught 0x0000000000000001\n"),
+        (End::Stopped, "stopped\n"),
+        (End::Asks, "asks\n"),
+        (End::Spent, "spent\n"),
+        (End::Stack, "stack\n"),
+        (End::Fault, "fault\n"),
+        (End::Fails, "fails\n"),
+    ] {
+        let mut sink = MemSink::new(rt.alloc(), 100, List::new(rt.alloc()))?;
+        write_end(&mut sink, end)?;
+        assert_eq!(rt; sink.bytes(), want.as_bytes(), "{end:?}");
+    }
     Ok(())
 }
 
