@@ -1,6 +1,6 @@
 -- How numbers are spelled, and what may follow a word.
-use Rattle.std.specs.Prelude.{◌≡◌, ℕ, ◌+◌, ◌-◌, ◌*◌, ◌&&◌, ◌||◌, ◌==◌, nat_le, not, Bool, true, if◌then◌else◌, List, [], ◌∷◌, ◌++◌, codes, IsTrue}
-use Rattle.std.specs.List.{list_all}
+use Rattle.std.specs.Prelude.{◌≡◌, ℕ, ◌+◌, ◌-◌, ◌*◌, ◌^◌, ◌&&◌, ◌||◌, ◌==◌, nat_le, nat_lt, nat_eq, not, Bool, true, if◌then◌else◌, List, [], ◌∷◌, ◌++◌, drop, codes, Option, Some, None, IsTrue}
+use Rattle.std.specs.List.{list_all, starts_with}
 use Rattle.pan_base.specs.Names.{is_digit, is_word_byte}
 
 -- a space, tab, line feed or carriage return
@@ -29,3 +29,14 @@ pub data IsNumeral (text : List ℕ) (n : ℕ) : Type 0 where
 abbrev pub begins_no_word : List ℕ → Bool
 begins_no_word [] = true
 begins_no_word (b ∷ bs) = not (is_word_byte b)
+
+-- the number below 2 ^ 64 that these digits stand for, if there is a digit and each is one
+abbrev pub number_of_digits : ℕ → (ℕ → Bool) → List ℕ → Option ℕ
+number_of_digits base is_one [] = None
+number_of_digits base is_one (d ∷ ds) =
+    if list_all is_one (d ∷ ds) && nat_lt (value_after base 0 (d ∷ ds)) (2 ^ 64) then Some (value_after base 0 (d ∷ ds)) else None
+
+-- the number below 2 ^ 64 that a word stands for: decimal digits, or 0x and hexadecimal digits of either case
+abbrev pub numeral : List ℕ → Option ℕ
+numeral word =
+    if starts_with nat_eq word (codes "0x") then number_of_digits 16 is_hex_digit (drop 2 word) else number_of_digits 10 is_digit word
