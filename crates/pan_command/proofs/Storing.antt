@@ -36,7 +36,7 @@ stored_below_after limit (Some f) (Some g) None name bytes same stored = absurd 
 
 module _ (before mid after : Outside) (source name bytes : List ℕ) (image : List ℕ) (read : Reads (before.files).files source (Ok bytes)) (built : (program : Program) × IsServed bytes program × Faithful program image None) (same : NoneChanged (before.files).files (mid.files).files) (writes : (mid.files).failed_writes ≡ (before.files).failed_writes) (out : mid.out ≡ before.out) where
   abbrev made : Built before source
-  made = record { bytes = bytes; held = held _ _ _ read; program = built.0; served = built.1; image = image; bound = None; faithful = built.2 }
+  made = record { bytes = bytes; held = held _ _ _ read; program = built.0; served = built.1; image = image; bound = None; unbounded = refl; faithful = built.2 }
 
   took : (line : List ℕ) → Took mid.out after.out line → Took before.out after.out line
   took line h = subst (λ o. Took o after.out line) out h

@@ -24,6 +24,8 @@ pub record Built (before : Outside) (source : List ℕ) : Type 0 where
   pub served : IsServed bytes program
   pub image : List ℕ
   pub bound : Option ℕ
+  -- no image has a bound so far
+  pub unbounded : bound ≡ None
   pub faithful : Faithful program image bound
 
 -- In what follows `Prints line` says how far the line was put: all of it, or a prefix.
