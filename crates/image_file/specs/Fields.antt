@@ -1,6 +1,7 @@
 -- Where the parts of an image stand, if its bytes are one.
-use Rattle.std.specs.Prelude.{ℕ, zero, suc, ◌+◌, ◌-◌, ◌%◌, nat_lt, if◌then◌else◌, List, [], ◌∷◌, ◌++◌, length, take, drop, Option, Some, None}
+use Rattle.std.specs.Prelude.{ℕ, zero, suc, ◌+◌, ◌-◌, ◌%◌, nat_lt, if◌then◌else◌, List, [], ◌∷◌, ◌++◌, length, take, drop, codes, Option, Some, None}
 use Rattle.std.specs.Option.{option_map, option_and_then}
+use Rattle.std.specs.Int.{w32, w64, to_le_bytes}
 use Rattle.byteorder.specs.Endian.{little_number}
 
 -- the fields of the first 32 bytes
@@ -46,3 +47,8 @@ front_name part =
 unfoldable pub names_at : ℕ → List ℕ → Option (List (List ℕ) × List ℕ)
 names_at zero part = Some ([], part)
 names_at (suc k) part = option_and_then (λ r. option_map (λ n. (r.0 ++ n.0 ∷ [], n.1)) (front_name r.1)) (names_at k part)
+
+-- the first 32 bytes
+abbrev pub header : ℕ → ℕ → ℕ → ℕ → List ℕ
+header code count bound names =
+    codes "PNK1" ++ to_le_bytes w32 code ++ to_le_bytes w32 0 ++ to_le_bytes w32 count ++ to_le_bytes w64 bound ++ to_le_bytes w32 names ++ to_le_bytes w32 0

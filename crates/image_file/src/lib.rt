@@ -3,6 +3,8 @@
 
 mod error;
 mod image;
+mod writing;
 
 pub use error::{FieldName, ImageError};
 pub use image::Image;
+pub use writing::write_image;

@@ -1,0 +1,35 @@
+-- Lawful names.
+use Rattle.std.proofs.Common.{◌≡◌, ℕ, ◌≤◌, Bool, true, false, ◌&&◌, not, List, [], ◌∷◌, length, codes, leb, All, IsTrue}
+use Rattle.std.specs.List.{list_any, AllByRecursion}
+use Rattle.std.specs.Str.{bytes_eq}
+use Rattle.std.proofs.lemmas.Bool.{and_parts, leb-true}
+use Rattle.std.proofs.lemmas.List.Elements.{All-from_recursion}
+use Rattle.pan_base.specs.Names.{is_spelled}
+use Rattle.riscv_isa.specs.Image.{is_foreign_name, are_foreign_names}
+
+pub name_is_short : (name : List ℕ) → is_foreign_name name ≡ true → length name ≤ 64
+name_is_short name h =
+    let a = and_parts (is_spelled name && leb (length name) 64 && not (bytes_eq name (codes "base"))) (not (bytes_eq name (codes "biw"))) h in
+    let b = and_parts (is_spelled name && leb (length name) 64) (not (bytes_eq name (codes "base"))) a.0 in
+    let c = and_parts (is_spelled name) (leb (length name) 64) b.0 in
+    leb-true (length name) 64 c.1
+
+-- what the names of a lawful row are
+pub record Splits (name : List ℕ) (names : List (List ℕ)) : Type 0 where
+  pub first : is_foreign_name name ≡ true
+  pub apart : not (list_any (λ other. bytes_eq other name) names) ≡ true
+  pub rest : are_foreign_names names ≡ true
+
+pub names_split : (name : List ℕ) (names : List (List ℕ)) → are_foreign_names (name ∷ names) ≡ true → Splits name names
+names_split name names h =
+    let a = and_parts (is_foreign_name name && not (list_any (λ other. bytes_eq other name) names)) (are_foreign_names names) h in
+    let b = and_parts (is_foreign_name name) (not (list_any (λ other. bytes_eq other name) names)) a.0 in
+    record { first = b.0; apart = b.1; rest = a.1 }
+
+each_is_short : (names : List (List ℕ)) → are_foreign_names names ≡ true → AllByRecursion (λ name. length name ≤ 64) names
+each_is_short [] h = tt
+each_is_short (name ∷ names) h =
+    let s = names_split name names h in (name_is_short name s.first, each_is_short names s.rest)
+
+pub names_are_short : (names : List (List ℕ)) → IsTrue (are_foreign_names names) → All (λ name. length name ≤ 64) names
+names_are_short names h = All-from_recursion (λ name. length name ≤ 64) names (each_is_short names h)
