@@ -7,25 +7,31 @@ use Rattle.image_file.specs.declared.error.FieldName.{FieldName}
 use Rattle.image_file.specs.declared.error.FieldName.TheVariants as field
 use Rattle.image_file.specs.declared.error.ImageError.{ImageError}
 use Rattle.image_file.specs.declared.error.ImageError.TheVariants.{Magic, Short, Field, BadName, Padding, Tail}
-use Rattle.image_file.specs.Fields.{code_length, entry, name_count, names_length, zero_field, size, names_bytes, padding_bytes, names_at}
+use Rattle.image_file.specs.declared.header.Header.{Header}
+use Rattle.image_file.specs.Fields.{header_of, size, names_bytes, padding_bytes, names_at}
 
 -- the fault of the first test that holds
 abbrev pub first_fault : List (Bool × ImageError) → Option ImageError
 first_fault [] = None
 first_fault (test ∷ tests) = if test.0 then Some test.1 else first_fault tests
 
+-- the tests of the fields
+abbrev pub field_tests : Header → List (Bool × ImageError)
+field_tests h =
+    (not (h.code_len % 4 == 0 && nat_le h.code_len 268439552), Field field.Code)
+    ∷ (not (h.entry == 0), Field field.Entry)
+    ∷ (nat_lt 1024 h.name_count, Field field.Count)
+    ∷ (nat_lt 67584 h.names_len, Field field.Names)
+    ∷ (not (h.zero == 0), Field field.Zero)
+    ∷ []
+
 -- the tests of the first 32 bytes, and whether all is there that they ask for
 abbrev pub header_tests : List ℕ → List (Bool × ImageError)
 header_tests bytes =
     (not (starts_with nat_eq (codes "PNK1") (take 4 bytes)), Magic)
     ∷ (nat_lt (length bytes) 32, Short)
-    ∷ (not (code_length bytes % 4 == 0 && nat_le (code_length bytes) 268439552), Field field.Code)
-    ∷ (not (entry bytes == 0), Field field.Entry)
-    ∷ (nat_lt 1024 (name_count bytes), Field field.Count)
-    ∷ (nat_lt 67584 (names_length bytes), Field field.Names)
-    ∷ (not (zero_field bytes == 0), Field field.Zero)
-    ∷ (nat_lt (length bytes) (size bytes), Short)
-    ∷ []
+    ∷ field_tests (header_of bytes)
+    ++ (nat_lt (length bytes) (size (header_of bytes)), Short) ∷ []
 
 -- name i of the part, or one before it, runs past the end or breaks the rule
 abbrev pub is_bad_name : List ℕ → ℕ → Bool
@@ -43,14 +49,15 @@ has_more part count = option_map_or (λ r. nat_lt 0 (length r.1)) (names_at coun
 -- the tests of what stands after the names
 abbrev pub end_tests : List ℕ → List (Bool × ImageError)
 end_tests bytes =
-    (has_more (names_bytes bytes) (name_count bytes), Field field.Names)
+    (has_more (names_bytes bytes) (header_of bytes).name_count, Field field.Names)
     ∷ (list_any (λ b. not (b == 0)) (padding_bytes bytes), Padding)
-    ∷ (nat_lt (size bytes) (length bytes), Tail)
+    ∷ (nat_lt (size (header_of bytes)) (length bytes), Tail)
     ∷ []
 
 -- All tests, in the order in which they count.
 abbrev pub tests : List ℕ → List (Bool × ImageError)
-tests bytes = header_tests bytes ++ name_tests (names_bytes bytes) 0 (name_count bytes) ++ end_tests bytes
+tests bytes =
+    header_tests bytes ++ name_tests (names_bytes bytes) 0 (header_of bytes).name_count ++ end_tests bytes
 
 -- what is wrong with the bytes, if anything is
 abbrev pub fault_of : List ℕ → Option ImageError

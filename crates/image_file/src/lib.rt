@@ -2,6 +2,7 @@
 #![tactic(auto)]
 
 mod error;
+mod header;
 mod image;
 mod writing;
 
