@@ -4,6 +4,7 @@
 mod error;
 mod header;
 mod image;
+mod names;
 mod writing;
 
 pub use error::{FieldName, ImageError};
