@@ -1,7 +1,10 @@
 -- Lawful names.
-use Rattle.std.proofs.Common.{◌≡◌, ℕ, ◌≤◌, Bool, true, false, ◌&&◌, not, List, [], ◌∷◌, length, codes, leb, All, IsTrue}
+use Rattle.std.proofs.Common.{◌≡◌, ℕ, ◌≤◌, Bool, true, false, ◌&&◌, ◌||◌, not, List, [], ◌∷◌, ◌++◌, length, codes, leb, All, IsTrue, refl, sym}
 use Rattle.std.specs.List.{list_any, AllByRecursion}
 use Rattle.std.specs.Str.{bytes_eq}
+use Rattle.std.specs.Bool.{one_answer}
+use Rattle.std.proofs.lemmas.Slice.Eq.{bytes_eq-Decides}
+use Rattle.std.proofs.lemmas.List.Folds.{list_any-append}
 use Rattle.std.proofs.lemmas.Bool.{and_parts, leb-true}
 use Rattle.std.proofs.lemmas.List.Elements.{All-from_recursion}
 use Rattle.pan_base.specs.Names.{is_spelled}
@@ -33,3 +36,24 @@ each_is_short (name ∷ names) h =
 
 pub names_are_short : (names : List (List ℕ)) → IsTrue (are_foreign_names names) → All (λ name. length name ≤ 64) names
 names_are_short names h = All-from_recursion (λ name. length name ≤ 64) names (each_is_short names h)
+
+-- ---- one name more
+
+flips : (x y : List ℕ) → bytes_eq x y ≡ bytes_eq y x
+flips x y = one_answer (bytes_eq x y) (bytes_eq y x) (bytes_eq-Decides x y) ((λ h. sym ((bytes_eq-Decides y x).0 h)), (λ e. (bytes_eq-Decides y x).1 (sym e)))
+
+push_tests : (a b c d e f : Bool) → ((a && not (b || (c || false))) && (d && e && not f)) ≡ ((a && not b && d) && e && not (c || f))
+push_tests false b c d e f = refl
+push_tests true true c d e f = refl
+push_tests true false true true true f = refl
+push_tests true false true true false f = refl
+push_tests true false true false e f = refl
+push_tests true false false d e f = refl
+
+-- a row with one name more is lawful if it was and the name is, and differs from the others
+pub are_foreign_names-push : (names : List (List ℕ)) (name : List ℕ)
+    → are_foreign_names (names ++ name ∷ []) ≡ (are_foreign_names names && is_foreign_name name && not (list_any (λ other. bytes_eq other name) names))
+are_foreign_names-push [] name = elim (is_foreign_name name) as (λ b. (b && not false && true) ≡ (true && b && not false)) [ true ↦ refl | false ↦ refl ]
+are_foreign_names-push (x ∷ xs) name =
+    rw (list_any-append (λ other. bytes_eq other x) xs (name ∷ []), are_foreign_names-push xs name, flips name x)
+    (push_tests (is_foreign_name x) (list_any (λ other. bytes_eq other x) xs) (bytes_eq x name) (are_foreign_names xs) (is_foreign_name name) (list_any (λ other. bytes_eq other name) xs))

@@ -64,3 +64,31 @@ fn front_of(part: &[u8]) -> Option<(&[u8], &[u8])>
     }
     Some(rest.split_at(length))
 }
+
+/// The first `count` names of a names part, and the bytes after them.
+fn first_names<'x>(
+    alloc: Global,
+    part: &'x [u8],
+    count: u32,
+) -> Result<(List<Blob>, &'x [u8]), ImageError>
+    ensures right { OnOk result (first_fault (name_tests part.now 0 count) ≡ None) }
+    ensures value { IfOk result (λ r. names_at count part.now ≡ Some (r.0, r.1.now)) }
+    ensures lawful { IfOk result (λ r. IsTrue (are_foreign_names r.0)) }
+    ensures fault { IfErr result (λ e.
+        (e ≡ ImageError.NoMemory) ⊎ (first_fault (name_tests part.now 0 count) ≡ Some e)) }
+{
+    let mut names = List::new(alloc);
+    let mut seen: BTreeSet<&'x [u8], Global> = BTreeSet::new(alloc);
+    let mut rest = part;
+    'names: for i in 0..count {
+        let Some((name, after)) = front_of(rest) else {
+            return Err(ImageError::BadName(i));
+        };
+        if !is_lawful(name) || !seen.insert(name)? {
+            return Err(ImageError::BadName(i));
+        }
+        names.push(Blob::from_slice(alloc, name)?)?;
+        rest = after;
+    }
+    Ok((names, rest))
+}
