@@ -1,2 +1,4 @@
 pub mod NameLemmas
 pub mod NamesRead
+pub mod Numbers
+pub mod HeaderLaws

@@ -79,7 +79,7 @@ pub record HasSeen (seen : BTreeSet (Bor (List ℕ))) (names : List (List ℕ)) 
 pub HasSeen-push : (seen new : BTreeSet (Bor (List ℕ))) (names : List (List ℕ)) (name : Bor (List ℕ)) → HasSeen seen names → sorted.Updates ref_cmp seen new name true → HasSeen new (names ++ name.now ∷ [])
 HasSeen-push seen new names name h u = record {
   same = λ q. u.0 q
-  ∙ rw (is_eq-slice_cmp name.now q.now, h.same q, list_any-append (λ other. bytes_eq other q.now) names (name.now ∷ [])) (turn (bytes_eq name.now q.now) (list_any (λ other. bytes_eq other q.now) names));
+      ∙ rw (is_eq-slice_cmp name.now q.now, h.same q, list_any-append (λ other. bytes_eq other q.now) names (name.now ∷ [])) (turn (bytes_eq name.now q.now) (list_any (λ other. bytes_eq other q.now) names));
 }
   where
     turn : (a b : Bool) → cond a true b ≡ (b || (a || false))

@@ -4,7 +4,7 @@ ghost use Rattle.std.specs.List.{starts_with};
 ghost use Rattle.std.specs.Option.{option_map};
 ghost use Rattle.std.specs.Prelude.{OnOk, ◌≡◌, ◌≤◌, ◌<◌, ◌+◌, ◌^◌, nat_eq, None, Some, IsTrue, IfOk, IfErr, length, nat_lt, take, codes};
 ghost use Rattle.image_file.specs.Faults.{first_fault, field_tests, header_tests};
-ghost use Rattle.image_file.specs.Fields.{header_of, size};
+ghost use Rattle.image_file.specs.Fields.{header_of, padding, size};
 
 use crate::error::{FieldName, ImageError};
 use byteorder::{ByteOrder, LittleEndian};
@@ -52,12 +52,19 @@ fn fields_of(bytes: &[u8]) -> Header
     }
 }
 
+/// How many bytes fill so many up to a multiple of 4.
+pub fn padding_of(length: usize) -> usize
+    ensures { result ≡ padding length }
+{
+    (4 - length % 4) % 4
+}
+
 /// How many bytes the fields ask for.
 fn size_of(header: &Header) -> usize
     ensures { result ≡ size header.now }
 {
     let names_len = header.names_len as usize;
-    32 + names_len + (4 - names_len % 4) % 4 + header.code_len as usize
+    32 + names_len + padding_of(names_len) + header.code_len as usize
 }
 
 /// The first field that is wrong.
@@ -83,6 +90,7 @@ fn wrong_field(header: &Header) -> Option<FieldName>
 pub fn read_header(bytes: &[u8]) -> Result<Header, ImageError>
     ensures right { OnOk result (first_fault (header_tests bytes.now) ≡ None) }
     ensures value { IfOk result (λ h. h ≡ header_of bytes.now) }
+    ensures there { OnOk result (size (header_of bytes.now) ≤ length bytes.now) }
     ensures fault { IfErr result (λ e. first_fault (header_tests bytes.now) ≡ Some e) }
 {
     if !begins_right(bytes) {

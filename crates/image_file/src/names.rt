@@ -5,10 +5,10 @@ ghost use Rattle.std.specs.List.{list_all};
 ghost use Rattle.std.specs.Option.{option_map};
 ghost use Rattle.pan_base.specs.Names as names;
 ghost use Rattle.riscv_isa.specs.Image.{is_foreign_name, are_foreign_names};
-ghost use Rattle.image_file.specs.Faults.{first_fault, name_tests, has_more};
+ghost use Rattle.image_file.specs.Faults.{first_fault, name_tests};
 ghost use Rattle.image_file.specs.Fields.{front_name, names_at};
 
-use crate::error::{FieldName, ImageError};
+use crate::error::ImageError;
 use byteorder::{ByteOrder, LittleEndian};
 use pan_base::{Blob, List};
 use std::alloc::Global;
@@ -66,11 +66,11 @@ fn front_of(part: &[u8]) -> Option<(&[u8], &[u8])>
 }
 
 /// The first `count` names of a names part, and the bytes after them.
-fn first_names<'x>(
+pub fn first_names(
     alloc: Global,
-    part: &'x [u8],
+    part: &[u8],
     count: u32,
-) -> Result<(List<Blob>, &'x [u8]), ImageError>
+) -> Result<(List<Blob>, &[u8]), ImageError>
     ensures right { OnOk result (first_fault (name_tests part.now 0 count) ≡ None) }
     ensures value { IfOk result (λ r. names_at count part.now ≡ Some (r.0, r.1.now)) }
     ensures lawful { IfOk result (λ r. IsTrue (are_foreign_names r.0)) }
@@ -78,7 +78,7 @@ fn first_names<'x>(
         (e ≡ ImageError.NoMemory) ⊎ (first_fault (name_tests part.now 0 count) ≡ Some e)) }
 {
     let mut names = List::new(alloc);
-    let mut seen: BTreeSet<&'x [u8], Global> = BTreeSet::new(alloc);
+    let mut seen: BTreeSet<&[u8], Global> = BTreeSet::new(alloc);
     let mut rest = part;
     'names: for i in 0..count {
         let Some((name, after)) = front_of(rest) else {

@@ -5,6 +5,7 @@ ghost use Rattle.std.specs.Option.{unwrap_or};
 ghost use Rattle.riscv_isa.specs.Image.{IsLawfulImage, ImageOf, names_part};
 ghost use Rattle.image_file.specs.Fields.{header, padding};
 
+use crate::header::padding_of;
 use byteorder::{ByteOrder, LittleEndian};
 use pan_base::{Blob, NoMemory};
 use riscv_isa::{Code, Names};
@@ -51,7 +52,7 @@ fn names_part_of(alloc: Global, names: &[Blob]) -> Result<Vec<u8>, NoMemory>
 fn zeros_after(length: usize) -> &'static [u8]
     ensures { result.now ≡ replicate (padding length) 0 }
 {
-    &[0; 3][..(4 - length % 4) % 4]
+    &[0; 3][..padding_of(length)]
 }
 
 /// The parts of an image in a row, with zeros after the names part up to a multiple of 4.
