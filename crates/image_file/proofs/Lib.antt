@@ -2,3 +2,4 @@ pub mod NameLemmas
 pub mod NamesRead
 pub mod Numbers
 pub mod HeaderLaws
+pub mod NameLaws

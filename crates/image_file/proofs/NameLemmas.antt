@@ -1,5 +1,5 @@
 -- Lawful names.
-use Rattle.std.proofs.Common.{◌≡◌, ℕ, ◌≤◌, Bool, true, false, ◌&&◌, ◌||◌, not, List, [], ◌∷◌, ◌++◌, length, codes, leb, All, IsTrue, refl, sym}
+use Rattle.std.proofs.Common.{◌≡◌, ℕ, ◌≤◌, Bool, true, false, ◌&&◌, ◌||◌, not, List, [], ◌∷◌, ◌++◌, length, codes, leb, All, IsTrue, refl, sym, ◌∙◌}
 use Rattle.std.specs.List.{list_any, AllByRecursion}
 use Rattle.std.specs.Str.{bytes_eq}
 use Rattle.std.specs.Bool.{one_answer}
@@ -57,3 +57,21 @@ are_foreign_names-push [] name = elim (is_foreign_name name) as (λ b. (b && not
 are_foreign_names-push (x ∷ xs) name =
     rw (list_any-append (λ other. bytes_eq other x) xs (name ∷ []), are_foreign_names-push xs name, flips name x)
     (push_tests (is_foreign_name x) (list_any (λ other. bytes_eq other x) xs) (bytes_eq x name) (are_foreign_names xs) (is_foreign_name name) (list_any (λ other. bytes_eq other name) xs))
+
+-- ---- a front of a lawful row
+
+not_or : (a b : Bool) → not (a || b) ≡ true → not a ≡ true
+not_or true b h = absurd cc
+not_or false b h = refl
+
+pub are_foreign_names-front : (xs ys : List (List ℕ)) → are_foreign_names (xs ++ ys) ≡ true → are_foreign_names xs ≡ true
+are_foreign_names-front [] ys h = refl
+are_foreign_names-front (x ∷ xs) ys h =
+    let s = names_split x (xs ++ ys) h in
+    let apart : not (list_any (λ other. bytes_eq other x) xs) ≡ true = not_or (list_any (λ other. bytes_eq other x) xs) (list_any (λ other. bytes_eq other x) ys) (rw list_any-append at s.apart) in
+    rw (s.first, apart, are_foreign_names-front xs ys s.rest) refl
+
+pub last_is_lawful : (names : List (List ℕ)) (name : List ℕ) → are_foreign_names (names ++ name ∷ []) ≡ true → is_foreign_name name ≡ true
+last_is_lawful names name h =
+    let a = and_parts (are_foreign_names names && is_foreign_name name) (not (list_any (λ other. bytes_eq other name) names)) (sym (are_foreign_names-push names name) ∙ h) in
+    (and_parts (are_foreign_names names) (is_foreign_name name) a.0).1

@@ -17,6 +17,7 @@ use Rattle.image_file.specs.declared.error.ImageError.TheVariants.{BadName}
 use Rattle.image_file.specs.Faults.{first_fault, name_tests, is_bad_name}
 use Rattle.image_file.specs.Fields.{front_name, names_at}
 use Rattle.image_file.proofs.NameLemmas.{are_foreign_names-push}
+use Rattle.image_file.proofs.NameLaws.{names_after}
 
 -- the first i of so many names are lawful and were read, and rest is left
 pub record HasRead (part : List ℕ) (count i : ℕ) (names : List (List ℕ)) (rest : List ℕ) : Type 0 where
@@ -27,12 +28,6 @@ pub record HasRead (part : List ℕ) (count i : ℕ) (names : List (List ℕ)) (
 pub HasRead-start : (part : List ℕ) (count : ℕ) → HasRead part count 0 [] part
 unfolding names_at
 HasRead-start part count = let e : count - 0 ≡ count = omega arith in record { at = refl; lawful = refl; left = rw e refl }
-
--- the names with the next one, where there is one
-names_after : (part : List ℕ) (i : ℕ) (names : List (List ℕ)) (rest : List ℕ) → names_at i part ≡ Some (names, rest)
-    → names_at (i + 1) part ≡ option_map (λ n. (names ++ n.0 ∷ [], n.1)) (front_name rest)
-unfolding names_at
-names_after part i names rest e = let k : i + 1 ≡ suc i = omega arith in rw (k, e) refl
 
 -- the next name is bad
 bad_here : (part : List ℕ) (count i : ℕ) (names : List (List ℕ)) (rest : List ℕ) → HasRead part count i names rest → i < count → is_bad_name part i ≡ true
