@@ -3,3 +3,4 @@ pub mod NamesRead
 pub mod Numbers
 pub mod HeaderLaws
 pub mod NameLaws
+pub mod FaultLaws

@@ -60,5 +60,5 @@ tests bytes =
     header_tests bytes ++ name_tests (names_bytes bytes) 0 (header_of bytes).name_count ++ end_tests bytes
 
 -- what is wrong with the bytes, if anything is
-abbrev pub fault_of : List ℕ → Option ImageError
+unfoldable pub fault_of : List ℕ → Option ImageError
 fault_of bytes = first_fault (tests bytes)

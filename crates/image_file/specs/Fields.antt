@@ -1,5 +1,5 @@
 -- Where the parts of an image stand.
-use Rattle.std.specs.Prelude.{ℕ, zero, suc, ◌+◌, ◌-◌, ◌%◌, nat_lt, if◌then◌else◌, List, [], ◌∷◌, ◌++◌, length, take, drop, codes, Option, Some, None}
+use Rattle.std.specs.Prelude.{ℕ, zero, suc, ◌+◌, ◌-◌, ◌%◌, ◌^◌, ◌==◌, nat_lt, if◌then◌else◌, List, [], ◌∷◌, ◌++◌, length, take, drop, codes, Option, Some, None}
 use Rattle.std.specs.Int.{w32, w64, to_le_bytes}
 use Rattle.std.specs.Option.{option_map, option_and_then}
 use Rattle.byteorder.specs.Endian.{little_number}
@@ -36,6 +36,15 @@ names_bytes bytes = take (header_of bytes).names_len (drop 32 bytes)
 abbrev pub padding_bytes : List ℕ → List ℕ
 padding_bytes bytes =
     take (padding (header_of bytes).names_len) (drop (32 + (header_of bytes).names_len) bytes)
+
+-- the code
+abbrev pub code_bytes : List ℕ → List ℕ
+code_bytes bytes =
+    take (header_of bytes).code_len (drop (32 + (header_of bytes).names_len + padding (header_of bytes).names_len) bytes)
+
+-- the bound that a word stands for
+abbrev pub bound_in : ℕ → Option ℕ
+bound_in word = if word == 2 ^ 64 - 1 then None else Some word
 
 -- The name at the front of a names part and the bytes after it, if neither its length nor its bytes run past the end.
 unfoldable pub front_name : List ℕ → Option (List ℕ × List ℕ)

@@ -1,16 +1,47 @@
 //! Reads images.
 
-ghost use Rattle.std.specs.Prelude.{◌≡◌, ◌≢◌, ◌⊎◌, ◌-◌, ◌^◌, ◌==◌, not, ℕ, List, [], ◌∷◌, Option, None, Some, Ok, Err, IfOk, IfErr, OnOk, length, nat_lt, nat_eq, if◌then◌else◌};
+ghost use Rattle.std.specs.Prelude.{◌≡◌, ◌≢◌, ◌⊎◌, ◌-◌, ◌≤◌, ◌==◌, not, ℕ, List, [], ◌∷◌, Option, None, Some, Ok, Err, IfOk, IfErr, OnOk, length, nat_lt};
 ghost use Rattle.std.specs.List.{list_any};
 ghost use Rattle.riscv_isa.specs.Image.{ImageOf};
 ghost use Rattle.image_file.specs.Faults.{first_fault, fault_of};
+ghost use Rattle.image_file.specs.Fields.{header_of, size, names_bytes, padding_bytes, code_bytes, bound_in};
 
 use crate::error::{FieldName, ImageError};
-use crate::header::{padding_of, read_header};
+use crate::header::{Header, padding_of, read_header};
 use crate::image::Image;
 use crate::names::first_names;
 use pan_base::Blob;
 use std::alloc::Global;
+
+/// What stands behind the header: the names part, the bytes that fill it up, the code, and what is left.
+#[derive(Clone, Copy)]
+struct Parts<'x> {
+    names: &'x [u8],
+    padding: &'x [u8],
+    code: &'x [u8],
+    tail: &'x [u8],
+}
+
+/// The parts of bytes that have all that their header asks for.
+fn parts_of<'x>(bytes: &'x [u8], header: &Header) -> Parts<'x>
+    requires header { header.now ≡ header_of bytes.now }
+    requires there { size header.now ≤ length bytes.now }
+    ensures names { result.names.now ≡ names_bytes bytes.now }
+    ensures padding { result.padding.now ≡ padding_bytes bytes.now }
+    ensures code { result.code.now ≡ code_bytes bytes.now }
+    ensures tail { length result.tail.now ≡ length bytes.now - size header.now }
+{
+    let names_len = header.names_len as usize;
+    let (names, rest) = bytes[32..].split_at(names_len);
+    let (padding, rest) = rest.split_at(padding_of(names_len));
+    let (code, tail) = rest.split_at(header.code_len as usize);
+    Parts {
+        names,
+        padding,
+        code,
+        tail,
+    }
+}
 
 fn has_other_than_zero(padding: &[u8]) -> bool
     ensures { result ≡ list_any (λ b. not (b == 0)) padding.now }
@@ -39,7 +70,7 @@ fn wrong_end(left: &[u8], padding: &[u8], tail: &[u8]) -> Option<ImageError>
 
 /// The bound that a word of 64 bits stands for: none for 2^64 - 1.
 fn bound_of(word: u64) -> Option<u64>
-    ensures { result ≡ (if nat_eq word (2 ^ 64 - 1) then None else Some word) }
+    ensures { result ≡ bound_in word }
 {
     if word == u64::MAX { None } else { Some(word) }
 }
@@ -51,14 +82,12 @@ fn read(alloc: Global, bytes: &[u8]) -> Result<Image, ImageError>
     ensures fault { IfErr result (λ e. (e ≡ ImageError.NoMemory) ⊎ (fault_of bytes.now ≡ Some e)) }
 {
     let header = read_header(bytes)?;
-    let (part, rest) = bytes[32..].split_at(header.names_len as usize);
-    let (names, left) = first_names(alloc, part, header.name_count)?;
-    let (padding, rest) = rest.split_at(padding_of(part.len()));
-    let (code, tail) = rest.split_at(header.code_len as usize);
-    if let Some(error) = wrong_end(left, padding, tail) {
+    let parts = parts_of(bytes, &header);
+    let (names, left) = first_names(alloc, parts.names, header.name_count)?;
+    if let Some(error) = wrong_end(left, parts.padding, parts.tail) {
         return Err(error);
     }
-    let code = Blob::from_slice(alloc, code)?;
+    let code = Blob::from_slice(alloc, parts.code)?;
     Ok(Image::new(code, names, bound_of(header.bound)))
 }
 
