@@ -33,7 +33,7 @@ in_names bytes e h n = fault_of-parts bytes ∙ rw (h, n) refl
 pub at_end : (bytes : List ℕ) (f : Option ImageError) → first_fault (header_tests bytes) ≡ None → first_fault (name_tests (names_bytes bytes) 0 (header_of bytes).name_count) ≡ None → first_fault (end_tests bytes) ≡ f → fault_of bytes ≡ f
 at_end bytes f h n e = fault_of-parts bytes ∙ rw (h, n) e
 
--- none of the tests of a row that finds no fault holds
-pub none_holds : (b : Bool) (e : ImageError) (tests : List Test) → first_fault ((b, e) ∷ tests) ≡ None → (b ≡ false) × (first_fault tests ≡ None)
-none_holds true e tests h = absurd cc
-none_holds false e tests h = (refl, h)
+-- a test that found no fault doesn't hold, and neither does the rest
+pub none_holds : (b : Bool) (e : ImageError) (rest : Option ImageError) → cond b (Some e) rest ≡ None → (b ≡ false) × (rest ≡ None)
+none_holds true e rest h = absurd cc
+none_holds false e rest h = (refl, h)

@@ -2,7 +2,7 @@
 use Rattle.std.proofs.Common.{◌≡◌, ℕ, ◌+◌, ◌^◌, ◌<◌, ◌≤◌, List, [], ◌∷◌, ◌++◌, length, take, drop, codes, refl, sym, ap, ◌∙◌, append_assoc, arith}
 use Rattle.std.proofs.lemmas.List.{take-append-drop, take-take, drop-take, length-drop}
 use Rattle.byteorder.specs.Endian.{little_number, little_bytes}
-use Rattle.byteorder.specs.Numbers.{little_number-reads_back}
+use Rattle.byteorder.specs.Numbers.{little_number-reads_back, little_from-lt}
 use Rattle.pan_base.specs.Words.{IsBytes}
 use Rattle.image_file.specs.declared.header.Header.{Header}
 use Rattle.image_file.specs.Fields.{header, header_of}
@@ -26,7 +26,7 @@ header_of-header code count bound names rest a b c d =
     (little_number-reads_back 4 code (drop 8 whole) a) (little_number-reads_back 4 count (drop 16 whole) b) (little_number-reads_back 8 bound (drop 24 whole) c) (little_number-reads_back 4 names (drop 28 whole) d)
 
 -- a piece of a list, and the piece after it
-join : (m n : ℕ) (xs : List ℕ) → take m xs ++ take n (drop m xs) ≡ take (m + n) xs
+pub join : (m n : ℕ) (xs : List ℕ) → take m xs ++ take n (drop m xs) ≡ take (m + n) xs
 join m n xs = rw (take-take m (m + n) xs (omega arith), drop-take m n xs) at (take-append-drop m (take (m + n) xs))
 
 row : (bytes p c z k b n y : List ℕ) → p ≡ take 4 bytes → c ≡ take 4 (drop 4 bytes) → z ≡ take 4 (drop 8 bytes) → k ≡ take 4 (drop 12 bytes) → b ≡ take 8 (drop 16 bytes)
@@ -47,3 +47,11 @@ header-header_of bytes code count bound names le fits magic e =
     (sym magic) (field bytes 4 4 code (omega arith) fits (ap (λ (h : Header). h.code_len) e)) (field bytes 8 4 0 (omega arith) fits (ap (λ (h : Header). h.entry) e))
     (field bytes 12 4 count (omega arith) fits (ap (λ (h : Header). h.name_count) e)) (field bytes 16 8 bound (omega arith) fits (ap (λ (h : Header). h.bound) e))
     (field bytes 24 4 names (omega arith) fits (ap (λ (h : Header). h.names_len) e)) (field bytes 28 4 0 (omega arith) fits (ap (λ (h : Header). h.zero) e))
+
+pub fields_are : (h : Header) (code count bound names : ℕ) → h.entry ≡ 0 → h.zero ≡ 0 → h.code_len ≡ code → h.name_count ≡ count → h.bound ≡ bound → h.names_len ≡ names
+    → h ≡ fields code count bound names
+fields_are h code count bound names entry zero a k b n = λ i. record { code_len = a i; entry = entry i; name_count = k i; bound = b i; names_len = n i; zero = zero i }
+
+pub bound_fits : (bytes : List ℕ) → IsBytes bytes → (header_of bytes).bound < 2 ^ 64
+unfolding header_of
+bound_fits bytes fits = little_from-lt 0 8 (drop 16 bytes) (IsBytes-drop 16 bytes fits)

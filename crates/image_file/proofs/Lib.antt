@@ -4,3 +4,4 @@ pub mod Numbers
 pub mod HeaderLaws
 pub mod NameLaws
 pub mod FaultLaws
+pub mod ImageLaws
