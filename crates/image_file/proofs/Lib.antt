@@ -5,3 +5,4 @@ pub mod HeaderLaws
 pub mod NameLaws
 pub mod FaultLaws
 pub mod ImageLaws
+pub mod WrittenLaws
