@@ -1,9 +1,9 @@
 -- Bytes without a fault are an image, and the bytes of an image have none.
-use Rattle.std.proofs.Common.{◌≡◌, ◌⊎◌, ℕ, zero, suc, ◌+◌, ◌-◌, ◌*◌, ◌%◌, ◌^◌, ◌<◌, ◌≤◌, Bool, true, false, cond, ltb, leb, eqb, ◌&&◌, ◌||◌, not, List, [], ◌∷◌, ◌++◌, length, take, drop, replicate, codes, Option, Some, None, refl, sym, ap, subst, ◌∙◌, append_assoc, arith}
+use Rattle.std.proofs.Common.{◌≡◌, ◌⊎◌, ℕ, zero, suc, ◌+◌, ◌-◌, ◌*◌, ◌%◌, ◌^◌, ◌<◌, ◌≤◌, Bool, true, false, cond, ltb, leb, eqb, ◌&&◌, ◌||◌, not, List, [], ◌∷◌, ◌++◌, length, take, drop, replicate, codes, Option, Some, None, refl, sym, ap, subst, ◌∙◌, append_assoc, arith, inl, inr}
 use Rattle.std.specs.List.{list_any, starts_with}
 use Rattle.std.specs.Option.{unwrap_or, ForSome}
 use Rattle.std.specs.Str.{bytes_eq}
-use Rattle.std.proofs.lemmas.Bool.{and_parts, or_parts, not-false, ltb-false, ltb-true, leb-true, eqb-true, eqb-false, le-ltb, le-leb, eq-eqb, ne_eqb}
+use Rattle.std.proofs.lemmas.Bool.{and_parts, or_parts, not-false, ltb-false, ltb-true, leb-true, eqb-true, eqb-false, le-ltb, lt-ltb, le-leb, eq-eqb, cases_lt}
 use Rattle.std.proofs.lemmas.List.{append-nil, take_all, length-take, length-drop, nil_from_length}
 use Rattle.std.proofs.lemmas.Slice.Eq.{bytes_eq-Decides}
 use Rattle.pan_base.specs.Words.{IsBytes}
@@ -135,3 +135,20 @@ is_image bytes names left fits header_none at lawful end_none =
       };
       spelled = sym all;
     }
+
+-- ---- the end
+
+ltb-sub : (a b : ℕ) → ltb 0 (b - a) ≡ ltb a b
+ltb-sub a b =
+    elim (cases_lt a b) [
+      | inl lt ↦ lt-ltb 0 (b - a) (omega arith) ∙ sym (lt-ltb a b lt)
+      | inr le ↦ le-ltb 0 (b - a) (omega arith) ∙ sym (le-ltb a b le)
+    ]
+
+-- the tests of what stands after the names, by the parts that were split off
+pub end_by_parts : (bytes left padding tail : List ℕ) (names : List (List ℕ)) → names_at (header_of bytes).name_count (names_bytes bytes) ≡ Some (names, left) → padding ≡ padding_bytes bytes
+    → length tail ≡ length bytes - size (header_of bytes)
+    → first_fault (end_tests bytes) ≡ first_fault ((ltb 0 (length left), Field field.Names) ∷ (list_any (λ b. not (eqb b 0)) padding, Padding) ∷ (ltb 0 (length tail), Tail) ∷ [])
+end_by_parts bytes left padding tail names at pad len =
+    let more : has_more (names_bytes bytes) (header_of bytes).name_count ≡ ltb 0 (length left) = rw at refl in
+    rw (more, pad, len, ltb-sub (size (header_of bytes)) (length bytes)) refl

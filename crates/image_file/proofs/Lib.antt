@@ -6,3 +6,4 @@ pub mod NameLaws
 pub mod FaultLaws
 pub mod ImageLaws
 pub mod WrittenLaws
+pub mod ReadLaws

@@ -11,7 +11,7 @@ use Rattle.image_file.specs.Fields.{header, header_of, padding, size, names_byte
 use Rattle.image_file.proofs.FaultLaws.{at_end}
 use Rattle.image_file.proofs.HeaderLaws.{fields, header_of-header}
 use Rattle.image_file.proofs.ImageLaws.{IsRight, right_header}
-use Rattle.image_file.proofs.NameLaws.{names_again}
+use Rattle.image_file.proofs.NameLaws.{names_again, some_is}
 
 -- the bytes are read as these parts, and nothing is wrong with them
 pub record Reads (bytes code : List ℕ) (names : List (List ℕ)) (bound : Option ℕ) : Type 0 where
@@ -48,7 +48,7 @@ reads_layout : (bytes code : List ℕ) (names : List (List ℕ)) (bound : Option
 reads_layout bytes code names bound l spelled =
     let part = names_part names in
     let n = length part in
-    let pad = replicate (padding n) 0 in
+    let pad : List ℕ = replicate (padding n) 0 in
     let word = unwrap_or bound (2 ^ 64 - 1) in
     let head = header (length code) (length names) word n in
     let front : bytes ≡ head ++ (part ++ (pad ++ code)) = spelled ∙ append_assoc (head ++ part) pad code ∙ append_assoc head part (pad ++ code) in
@@ -78,3 +78,15 @@ reads_layout bytes code names bound l spelled =
       bound_is = rw says (bound_back bound l.bounded);
       right = at_end bytes None (right_header bytes right) no_name end;
     }
+
+pub image_reads : (bytes code : List ℕ) (names : List (List ℕ)) (bound : Option ℕ) → ImageOf bytes code names bound → Reads bytes code names bound
+image_reads bytes code names bound image = reads_layout bytes code names bound image.lawful image.spelled
+
+-- one row of bytes is one image
+pub same_image : (bytes code code' : List ℕ) (names names' : List (List ℕ)) (bound bound' : Option ℕ) → ImageOf bytes code names bound → ImageOf bytes code' names' bound'
+    → (code ≡ code') × (names ≡ names') × (bound ≡ bound')
+same_image bytes code code' names names' bound bound' a b =
+    let r = image_reads bytes code names bound a in
+    let s = image_reads bytes code' names' bound' b in
+    let both : names ≡ names' = ap (λ (p : List (List ℕ) × List ℕ). p.0) (some_is (names, []) (names', []) (sym r.names_are ∙ s.names_are)) in
+    (sym r.code_is ∙ s.code_is, both, sym r.bound_is ∙ s.bound_is)

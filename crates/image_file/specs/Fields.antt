@@ -1,5 +1,5 @@
 -- Where the parts of an image stand.
-use Rattle.std.specs.Prelude.{ℕ, zero, suc, ◌+◌, ◌-◌, ◌%◌, ◌^◌, ◌==◌, nat_lt, if◌then◌else◌, List, [], ◌∷◌, ◌++◌, length, take, drop, codes, Option, Some, None}
+use Rattle.std.specs.Prelude.{◌≡◌, ℕ, zero, suc, ◌+◌, ◌-◌, ◌%◌, ◌^◌, ◌==◌, nat_lt, if◌then◌else◌, List, [], ◌∷◌, ◌++◌, length, take, drop, codes, Option, Some, None}
 use Rattle.std.specs.Int.{w32, w64, to_le_bytes}
 use Rattle.std.specs.Option.{option_map, option_and_then}
 use Rattle.byteorder.specs.Endian.{little_number}
@@ -41,6 +41,13 @@ padding_bytes bytes =
 abbrev pub code_bytes : List ℕ → List ℕ
 code_bytes bytes =
     take (header_of bytes).code_len (drop (32 + (header_of bytes).names_len + padding (header_of bytes).names_len) bytes)
+
+-- what stands behind the header: the names part, the bytes that fill it up, the code, and what is left
+pub record AreParts (bytes names padding code tail : List ℕ) : Type 0 where
+  pub names_are : names ≡ names_bytes bytes
+  pub padding_is : padding ≡ padding_bytes bytes
+  pub code_is : code ≡ code_bytes bytes
+  pub tail_len : length tail ≡ length bytes - size (header_of bytes)
 
 -- the bound that a word stands for
 abbrev pub bound_in : ℕ → Option ℕ

@@ -4,7 +4,7 @@ ghost use Rattle.std.specs.Prelude.{◌≡◌, ◌≢◌, ◌⊎◌, ◌-◌, �
 ghost use Rattle.std.specs.List.{list_any};
 ghost use Rattle.riscv_isa.specs.Image.{ImageOf};
 ghost use Rattle.image_file.specs.Faults.{first_fault, fault_of};
-ghost use Rattle.image_file.specs.Fields.{header_of, size, names_bytes, padding_bytes, code_bytes, bound_in};
+ghost use Rattle.image_file.specs.Fields.{header_of, size, AreParts, bound_in};
 
 use crate::error::{FieldName, ImageError};
 use crate::header::{Header, padding_of, read_header};
@@ -26,10 +26,7 @@ struct Parts<'x> {
 fn parts_of<'x>(bytes: &'x [u8], header: &Header) -> Parts<'x>
     requires header { header.now ≡ header_of bytes.now }
     requires there { size header.now ≤ length bytes.now }
-    ensures names { result.names.now ≡ names_bytes bytes.now }
-    ensures padding { result.padding.now ≡ padding_bytes bytes.now }
-    ensures code { result.code.now ≡ code_bytes bytes.now }
-    ensures tail { length result.tail.now ≡ length bytes.now - size header.now }
+    ensures { AreParts bytes.now result.names.now result.padding.now result.code.now result.tail.now }
 {
     let names_len = header.names_len as usize;
     let (names, rest) = bytes[32..].split_at(names_len);
