@@ -7,3 +7,4 @@ pub mod FaultLaws
 pub mod ImageLaws
 pub mod WrittenLaws
 pub mod ReadLaws
+pub mod Complete

@@ -4,11 +4,13 @@
 mod error;
 mod header;
 mod image;
+mod laws;
 mod names;
 mod reading;
 mod writing;
 
 pub use error::{FieldName, ImageError};
 pub use image::Image;
+pub use laws::one_image;
 pub use reading::read_image;
 pub use writing::write_image;
