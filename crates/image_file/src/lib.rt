@@ -11,6 +11,6 @@ mod writing;
 
 pub use error::{FieldName, ImageError};
 pub use image::Image;
-pub use laws::one_image;
+pub use laws::{one_image, read_written};
 pub use reading::read_image;
 pub use writing::write_image;
