@@ -110,8 +110,8 @@ comment_found [] rest e = no_some rest e
 comment_found (c ∷ cs) rest e =
     if_some (eqb c 47) _ _ rest
     (λ is same.
-      let h : drop (prefix_len is_in_line cs) cs ≡ rest = cc in
-      subst (λ c. GapAt (47 ∷ c ∷ cs) rest) (sym ((Decides-eqb c 47).0 is)) (subst (GapAt (47 ∷ 47 ∷ cs)) h (line_comment cs)))
+    let h : drop (prefix_len is_in_line cs) cs ≡ rest = cc in
+    subst (λ c. GapAt (47 ∷ c ∷ cs) rest) (sym ((Decides-eqb c 47).0 is)) (subst (GapAt (47 ∷ 47 ∷ cs)) h (line_comment cs)))
     (λ _ same. if_some (eqb c 42) _ _ rest
     (λ is same. subst (λ c. GapAt (47 ∷ c ∷ cs) rest) (sym ((Decides-eqb c 42).0 is)) (block_comment cs rest (close_found cs rest same)))
     (λ _ same. no_some rest same)

@@ -22,15 +22,43 @@ keyword_is word k e = (bytes_eq-Decides word (keyword_text k)).0 (found_passes (
 keyword_found : (k : Keyword) → keyword_of (keyword_text k) ≡ Some k
 unfolding keyword_of
 keyword_found = elim [
-  keyword.Exception ↦ refl | keyword.Fun ↦ refl | keyword.Skip ↦ refl | keyword.Var ↦ refl | keyword.St ↦ refl | keyword.Stb ↦ refl
-  | keyword.If ↦ refl | keyword.Else ↦ refl | keyword.While ↦ refl | keyword.Break ↦ refl | keyword.Continue ↦ refl | keyword.Handle ↦ refl
-  | keyword.Return ↦ refl | keyword.Raise ↦ refl | keyword.Lds ↦ refl | keyword.Ldb ↦ refl ]
+  | keyword.Exception ↦ refl
+  | keyword.Fun ↦ refl
+  | keyword.Skip ↦ refl
+  | keyword.Var ↦ refl
+  | keyword.St ↦ refl
+  | keyword.Stb ↦ refl
+  | keyword.If ↦ refl
+  | keyword.Else ↦ refl
+  | keyword.While ↦ refl
+  | keyword.Break ↦ refl
+  | keyword.Continue ↦ refl
+  | keyword.Handle ↦ refl
+  | keyword.Return ↦ refl
+  | keyword.Raise ↦ refl
+  | keyword.Lds ↦ refl
+  | keyword.Ldb ↦ refl
+]
 
 pub keyword_spelled : (k : Keyword) → is_spelled (keyword_text k) ≡ true
 keyword_spelled = elim [
-  keyword.Exception ↦ refl | keyword.Fun ↦ refl | keyword.Skip ↦ refl | keyword.Var ↦ refl | keyword.St ↦ refl | keyword.Stb ↦ refl
-  | keyword.If ↦ refl | keyword.Else ↦ refl | keyword.While ↦ refl | keyword.Break ↦ refl | keyword.Continue ↦ refl | keyword.Handle ↦ refl
-  | keyword.Return ↦ refl | keyword.Raise ↦ refl | keyword.Lds ↦ refl | keyword.Ldb ↦ refl ]
+  | keyword.Exception ↦ refl
+  | keyword.Fun ↦ refl
+  | keyword.Skip ↦ refl
+  | keyword.Var ↦ refl
+  | keyword.St ↦ refl
+  | keyword.Stb ↦ refl
+  | keyword.If ↦ refl
+  | keyword.Else ↦ refl
+  | keyword.While ↦ refl
+  | keyword.Break ↦ refl
+  | keyword.Continue ↦ refl
+  | keyword.Handle ↦ refl
+  | keyword.Return ↦ refl
+  | keyword.Raise ↦ refl
+  | keyword.Lds ↦ refl
+  | keyword.Ldb ↦ refl
+]
 
 no_keyword : (word : List ℕ) → keyword_of word ≡ None → is_reserved word ≡ false
 unfolding keyword_of
@@ -45,7 +73,7 @@ pub named_spells : (word : List ℕ) → is_spelled word ≡ true → Spells wor
 named_spells word spelled =
     none_or_some (Spells word (named word (keyword_of word))) (keyword_of word)
     (λ e. let free : not (is_reserved word) ≡ true = ap not (no_keyword word e) in
-      subst (λ k. Spells word (named word k)) (sym e) (refl, spelled, free))
+    subst (λ k. Spells word (named word k)) (sym e) (refl, spelled, free))
     (λ k e. subst (λ k. Spells word (named word k)) (sym e) (keyword_is word k e))
 
 not_true : (b : Bool) → not b ≡ true → b ≡ false
@@ -77,10 +105,10 @@ unfolding access_of
 access_is word k e =
     if_some (bytes_eq (take 2 word) (codes "ld")) _ _ k
     (λ is same. mapped_some Load (size_of (drop 2 word)) k
-      (λ s found gives. subst (IsAccess word) gives (Loads s (begins_with (codes "ld") word is ∙ ap (λ ds. codes "ld" ++ ds) (size_is (drop 2 word) s found)))) same)
+    (λ s found gives. subst (IsAccess word) gives (Loads s (begins_with (codes "ld") word is ∙ ap (λ ds. codes "ld" ++ ds) (size_is (drop 2 word) s found)))) same)
     (λ _ same. if_some (bytes_eq (take 2 word) (codes "st")) _ _ k
     (λ is same. mapped_some Store (size_of (drop 2 word)) k
-      (λ s found gives. subst (IsAccess word) gives (Stores s (begins_with (codes "st") word is ∙ ap (λ ds. codes "st" ++ ds) (size_is (drop 2 word) s found)))) same)
+    (λ s found gives. subst (IsAccess word) gives (Stores s (begins_with (codes "st") word is ∙ ap (λ ds. codes "st" ++ ds) (size_is (drop 2 word) s found)))) same)
     (λ _ same. no_some k same)
     same)
     e

@@ -68,7 +68,7 @@ module _ (bytes rest : List ℕ) (place : ℕ) (stuck : IsStuckAt bytes place re
       let same = same_begun q begins_block r in
       let number : begins_number rest ≡ false = block_no_number rest same.1 in
       ap OpenComment same.0 ∙ sym (ap (λ t. cond t (BadNumber place) (cond (begins_block rest) (OpenComment place) (BadByte place))) number
-        ∙ ap (λ t. cond t (OpenComment place) (BadByte place)) same.1)
+      ∙ ap (λ t. cond t (OpenComment place) (BadByte place)) same.1)
   only_error short NoMemory r = absurd r
 
 -- ---- the answers of `lex`

@@ -87,8 +87,8 @@ same_row at bytes _ b rest other (Next _ _ text more _ kind tokens all spelled l
     let g = goes at bytes more other (Some kind) b (token_piece bytes text more kind all spelled longest) row stops in
     let same = same_row (at + length text) more tokens g.others rest other one ended (subst (λ n. Row (at + n) more g.others other) (taken bytes text more all) g.row) stops in
     let first : record { kind = kind; span = record { start = at; end = at + length text } } ∷ tokens ≡ tokens_in (Some kind) (span_before at bytes more) ++ g.others =
-        ap (λ n. record { kind = kind; span = record { start = at; end = at + n } } ∷ tokens) (sym (taken bytes text more all))
-        ∙ ap (λ ts. record { kind = kind; span = record { start = at; end = at + (length bytes - length more) } } ∷ ts) same.0 in
+    ap (λ n. record { kind = kind; span = record { start = at; end = at + n } } ∷ tokens) (sym (taken bytes text more all))
+    ∙ ap (λ ts. record { kind = kind; span = record { start = at; end = at + (length bytes - length more) } } ∷ ts) same.0 in
     (first ∙ sym g.all, same.1)
 
 -- ---- where nothing goes on
@@ -158,8 +158,8 @@ row_more bytes rest more tokens k row is =
     let end : length bytes - length rest + (length rest - length more) ≡ length bytes - length more = omega arith in
     let new : List Placed = tokens_in k (record { start = length bytes - length rest; end = length bytes - length more }) in
     let one : Row (length bytes - length rest) rest new more =
-        subst (λ n. Row (length bytes - length rest) rest (tokens_in k (record { start = length bytes - length rest; end = n })) more) end
-        (row_piece (length bytes - length rest) rest more k piece) in
+    subst (λ n. Row (length bytes - length rest) rest (tokens_in k (record { start = length bytes - length rest; end = n })) more) end
+    (row_piece (length bytes - length rest) rest more k piece) in
     row_append 0 bytes rest more tokens new row (subst (λ n. Row n rest new more) (sym start) one)
 
 -- ---- places
@@ -213,15 +213,15 @@ whole (suc n) at bytes small =
     none_or_some (Whole at bytes) (piece_of bytes)
     (λ none. record { tokens = []; rest = bytes; row = Here at bytes; ended = none })
     (λ p is.
-      let piece : PieceAt bytes p.0 p.1 = piece_found bytes p is in
-      let shorter : length p.1 < length bytes = piece_shorter bytes p.0 p.1 piece in
-      let more = whole n (at + (length bytes - length p.1)) p.1 (omega arith) in
-      record {
-        tokens = tokens_in p.0 (span_before at bytes p.1) ++ more.tokens;
-        rest = more.rest;
-        row = row_append at bytes p.1 more.rest (tokens_in p.0 (span_before at bytes p.1)) more.tokens (row_piece at bytes p.1 p.0 piece) more.row;
-        ended = more.ended;
-      })
+    let piece : PieceAt bytes p.0 p.1 = piece_found bytes p is in
+    let shorter : length p.1 < length bytes = piece_shorter bytes p.0 p.1 piece in
+    let more = whole n (at + (length bytes - length p.1)) p.1 (omega arith) in
+    record {
+      tokens = tokens_in p.0 (span_before at bytes p.1) ++ more.tokens;
+      rest = more.rest;
+      row = row_append at bytes p.1 more.rest (tokens_in p.0 (span_before at bytes p.1)) more.tokens (row_piece at bytes p.1 p.0 piece) more.row;
+      ended = more.ended;
+    })
 
 pub stuck_at : (bytes rest : List ℕ) (tokens : List Placed) → Row 0 bytes tokens rest → piece_of rest ≡ None → ¬ (rest ≡ []) → IsStuckAt bytes (length bytes - length rest) rest
 stuck_at bytes rest tokens row ended some = record {
@@ -236,6 +236,7 @@ row_or_stuck bytes = by_rest w.rest w.tokens w.row w.ended
   where
     w : Whole 0 bytes
     w = whole (length bytes) 0 bytes (omega arith)
+
     by_rest : (rest : List ℕ) (tokens : List Placed) → Row 0 bytes tokens rest → piece_of rest ≡ None → ((tokens : List Placed) × Lexes bytes tokens) ⊎ ((place : ℕ) × (rest : List ℕ) × IsStuckAt bytes place rest)
     by_rest [] tokens row ended = inl (tokens, row)
     by_rest (b ∷ bs) tokens row ended = inr (length bytes - length (b ∷ bs), b ∷ bs, stuck_at bytes (b ∷ bs) tokens row ended (λ e. let no_end : b ∷ bs ≡ [] = e in cc))

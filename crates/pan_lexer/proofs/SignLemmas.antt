@@ -26,17 +26,61 @@ sign_by_three (a ∷ b ∷ c ∷ ds) = refl
 pub sign_found : (s : Sign) → sign_of (sign_text s) ≡ Some s
 unfolding sign_of
 sign_found = elim [
-  sign.OpenParen ↦ refl | sign.CloseParen ↦ refl | sign.OpenBrace ↦ refl | sign.CloseBrace ↦ refl | sign.Less ↦ refl | sign.Greater ↦ refl
-  | sign.Comma ↦ refl | sign.Semicolon ↦ refl | sign.Dot ↦ refl | sign.Assign ↦ refl | sign.Plus ↦ refl | sign.Minus ↦ refl | sign.Star ↦ refl
-  | sign.And ↦ refl | sign.Or ↦ refl | sign.Xor ↦ refl | sign.Equal ↦ refl | sign.NotEqual ↦ refl | sign.NotLess ↦ refl | sign.LessU ↦ refl
-  | sign.NotLessU ↦ refl | sign.ShiftLeft ↦ refl | sign.ShiftRight ↦ refl | sign.ShiftSigned ↦ refl | sign.Rotate ↦ refl ]
+  | sign.OpenParen ↦ refl
+  | sign.CloseParen ↦ refl
+  | sign.OpenBrace ↦ refl
+  | sign.CloseBrace ↦ refl
+  | sign.Less ↦ refl
+  | sign.Greater ↦ refl
+  | sign.Comma ↦ refl
+  | sign.Semicolon ↦ refl
+  | sign.Dot ↦ refl
+  | sign.Assign ↦ refl
+  | sign.Plus ↦ refl
+  | sign.Minus ↦ refl
+  | sign.Star ↦ refl
+  | sign.And ↦ refl
+  | sign.Or ↦ refl
+  | sign.Xor ↦ refl
+  | sign.Equal ↦ refl
+  | sign.NotEqual ↦ refl
+  | sign.NotLess ↦ refl
+  | sign.LessU ↦ refl
+  | sign.NotLessU ↦ refl
+  | sign.ShiftLeft ↦ refl
+  | sign.ShiftRight ↦ refl
+  | sign.ShiftSigned ↦ refl
+  | sign.Rotate ↦ refl
+]
 
 sign_listed : (s : Sign) → find (λ t. bytes_eq (sign_text s) (sign_text t)) signs ≡ Some s
 sign_listed = elim [
-  sign.OpenParen ↦ refl | sign.CloseParen ↦ refl | sign.OpenBrace ↦ refl | sign.CloseBrace ↦ refl | sign.Less ↦ refl | sign.Greater ↦ refl
-  | sign.Comma ↦ refl | sign.Semicolon ↦ refl | sign.Dot ↦ refl | sign.Assign ↦ refl | sign.Plus ↦ refl | sign.Minus ↦ refl | sign.Star ↦ refl
-  | sign.And ↦ refl | sign.Or ↦ refl | sign.Xor ↦ refl | sign.Equal ↦ refl | sign.NotEqual ↦ refl | sign.NotLess ↦ refl | sign.LessU ↦ refl
-  | sign.NotLessU ↦ refl | sign.ShiftLeft ↦ refl | sign.ShiftRight ↦ refl | sign.ShiftSigned ↦ refl | sign.Rotate ↦ refl ]
+  | sign.OpenParen ↦ refl
+  | sign.CloseParen ↦ refl
+  | sign.OpenBrace ↦ refl
+  | sign.CloseBrace ↦ refl
+  | sign.Less ↦ refl
+  | sign.Greater ↦ refl
+  | sign.Comma ↦ refl
+  | sign.Semicolon ↦ refl
+  | sign.Dot ↦ refl
+  | sign.Assign ↦ refl
+  | sign.Plus ↦ refl
+  | sign.Minus ↦ refl
+  | sign.Star ↦ refl
+  | sign.And ↦ refl
+  | sign.Or ↦ refl
+  | sign.Xor ↦ refl
+  | sign.Equal ↦ refl
+  | sign.NotEqual ↦ refl
+  | sign.NotLess ↦ refl
+  | sign.LessU ↦ refl
+  | sign.NotLessU ↦ refl
+  | sign.ShiftLeft ↦ refl
+  | sign.ShiftRight ↦ refl
+  | sign.ShiftSigned ↦ refl
+  | sign.Rotate ↦ refl
+]
 
 each_longest_first : (q : Sign → Bool) → list_all q longest_first ≡ true → (s : Sign) → q s ≡ true
 unfolding sign_of
@@ -82,12 +126,12 @@ first_longest p (t ∷ ts) s falls e =
     let parts = both_true (list_all (λ u. leb (length (sign_text u)) (length (sign_text t))) ts) (is_falling ts) falls in
     if_some (p t) (Some t) (find p ts) s
     (λ is same.
-      let h : t ≡ s = cc in
-      subst (λ s. list_all (no_longer p s) (t ∷ ts) ≡ true) h
-      (rw (or_true (not (p t)) (leb (length (sign_text t)) (length (sign_text t))) (same_length (length (sign_text t))), all_or p t ts parts.0) refl))
+    let h : t ≡ s = cc in
+    subst (λ s. list_all (no_longer p s) (t ∷ ts) ≡ true) h
+    (rw (or_true (not (p t)) (leb (length (sign_text t)) (length (sign_text t))) (same_length (length (sign_text t))), all_or p t ts parts.0) refl))
     (λ no same.
-      let skipped : (not (p t) || leb (length (sign_text t)) (length (sign_text s))) ≡ true = ap (λ b. not b || leb (length (sign_text t)) (length (sign_text s))) no in
-      rw (skipped, first_longest p ts s parts.1 same) refl)
+    let skipped : (not (p t) || leb (length (sign_text t)) (length (sign_text s))) ≡ true = ap (λ b. not b || leb (length (sign_text t)) (length (sign_text s))) no in
+    rw (skipped, first_longest p ts s parts.1 same) refl)
     e
 
 -- the text begins with this sign, and with no longer one
@@ -124,7 +168,7 @@ unfolding sign_of begins
 sign_at bytes s e =
     let starts : begins bytes s ≡ true = found_passes (begins bytes) longest_first s e in
     let all : bytes ≡ sign_text s ++ drop (length (sign_text s)) bytes =
-        sym (take-append-drop (length (sign_text s)) bytes) ∙ ap (λ front. front ++ drop (length (sign_text s)) bytes) (sym (begins_so bytes s starts)) in
+    sym (take-append-drop (length (sign_text s)) bytes) ∙ ap (λ front. front ++ drop (length (sign_text s)) bytes) (sym (begins_so bytes s starts)) in
     let each : list_all (no_longer (begins bytes) s) signs ≡ true = all_pass (no_longer (begins bytes) s) (no_longer_signs bytes s e) signs in
     record {
       all = all;
@@ -148,15 +192,15 @@ sign_given s rest longest =
     let here : begins bytes s ≡ true = begins_own s rest in
     none_or_some (sign_of bytes ≡ Some s) (sign_of bytes)
     (λ e.
-      let fails : not (begins bytes s) ≡ true = each_longest_first (λ t. not (begins bytes t)) (each_fails (begins bytes) longest_first e) s in
-      absurd (let no_such : not true ≡ true = sym (ap not here) ∙ fails in cc))
+    let fails : not (begins bytes s) ≡ true = each_longest_first (λ t. not (begins bytes t)) (each_fails (begins bytes) longest_first e) s in
+    absurd (let no_such : not true ≡ true = sym (ap not here) ∙ fails in cc))
     (λ t e.
-      let there : begins bytes t ≡ true = found_passes (begins bytes) longest_first t e in
-      let up : length (sign_text s) ≤ length (sign_text t) = at_most (begins bytes) t s here (no_longer_signs bytes t e s) in
-      let tests : list_all (no_longer (begins bytes) s) signs ≡ true = sym (longest_as_test s rest) ∙ longest in
-      let down : length (sign_text t) ≤ length (sign_text s) = at_most (begins bytes) s t there (each_sign (no_longer (begins bytes) s) tests t) in
-      let same : length (sign_text s) ≡ length (sign_text t) = omega arith in
-      e ∙ ap Some (sym (same_sign bytes s t here there same)))
+    let there : begins bytes t ≡ true = found_passes (begins bytes) longest_first t e in
+    let up : length (sign_text s) ≤ length (sign_text t) = at_most (begins bytes) t s here (no_longer_signs bytes t e s) in
+    let tests : list_all (no_longer (begins bytes) s) signs ≡ true = sym (longest_as_test s rest) ∙ longest in
+    let down : length (sign_text t) ≤ length (sign_text s) = at_most (begins bytes) s t there (each_sign (no_longer (begins bytes) s) tests t) in
+    let same : length (sign_text s) ≡ length (sign_text t) = omega arith in
+    e ∙ ap Some (sym (same_sign bytes s t here there same)))
 
 pub sign_within : (bytes : List ℕ) (s : Sign) → sign_of bytes ≡ Some s → length (sign_text s) ≤ length bytes
 sign_within bytes s e =

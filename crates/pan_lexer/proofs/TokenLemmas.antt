@@ -230,10 +230,32 @@ store_word = elim [ B1 ↦ refl | B2 ↦ refl | B4 ↦ refl | B8 ↦ refl ]
 sign_step : (rest : List ℕ) (s : Sign) → token_of (sign_text s ++ rest) ≡ sign_token (sign_text s ++ rest)
 unfolding token_of access_token access_of word_of
 sign_step rest = elim [
-  sign.OpenParen ↦ refl | sign.CloseParen ↦ refl | sign.OpenBrace ↦ refl | sign.CloseBrace ↦ refl | sign.Less ↦ refl | sign.Greater ↦ refl
-  | sign.Comma ↦ refl | sign.Semicolon ↦ refl | sign.Dot ↦ refl | sign.Assign ↦ refl | sign.Plus ↦ refl | sign.Minus ↦ refl | sign.Star ↦ refl
-  | sign.And ↦ refl | sign.Or ↦ refl | sign.Xor ↦ refl | sign.Equal ↦ refl | sign.NotEqual ↦ refl | sign.NotLess ↦ refl | sign.LessU ↦ refl
-  | sign.NotLessU ↦ refl | sign.ShiftLeft ↦ refl | sign.ShiftRight ↦ refl | sign.ShiftSigned ↦ refl | sign.Rotate ↦ refl ]
+  | sign.OpenParen ↦ refl
+  | sign.CloseParen ↦ refl
+  | sign.OpenBrace ↦ refl
+  | sign.CloseBrace ↦ refl
+  | sign.Less ↦ refl
+  | sign.Greater ↦ refl
+  | sign.Comma ↦ refl
+  | sign.Semicolon ↦ refl
+  | sign.Dot ↦ refl
+  | sign.Assign ↦ refl
+  | sign.Plus ↦ refl
+  | sign.Minus ↦ refl
+  | sign.Star ↦ refl
+  | sign.And ↦ refl
+  | sign.Or ↦ refl
+  | sign.Xor ↦ refl
+  | sign.Equal ↦ refl
+  | sign.NotEqual ↦ refl
+  | sign.NotLess ↦ refl
+  | sign.LessU ↦ refl
+  | sign.NotLessU ↦ refl
+  | sign.ShiftLeft ↦ refl
+  | sign.ShiftRight ↦ refl
+  | sign.ShiftSigned ↦ refl
+  | sign.Rotate ↦ refl
+]
 
 sign_given_token : (s : Sign) (rest : List ℕ) → IsLongest (ASign s) rest → token_of (sign_text s ++ rest) ≡ Some (ASign s, rest)
 unfolding sign_token

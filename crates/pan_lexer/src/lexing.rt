@@ -93,10 +93,8 @@ pub fn lex(alloc: Global, bytes: &[u8]) -> Result<Tokens<'_>, LexError>
 
     // which answer comes
     ensures too_long { source_limit < length bytes.now → result ≡ Err LexError.TooLong }
-    ensures lexed {
-        (row : List Placed) → Lexes bytes.now row → length bytes.now ≤ source_limit
-            → MatchResult result (λ t. t.tokens ≡ row) (λ e. e ≡ LexError.NoMemory)
-    }
+    ensures lexed { (row : List Placed) → Lexes bytes.now row → length bytes.now ≤ source_limit
+        → MatchResult result (λ t. t.tokens ≡ row) (λ e. e ≡ LexError.NoMemory) }
     ensures stuck { (e : IsLexError) → Refusal bytes.now e → (result ≡ Err e) ⊎ (result ≡ Err LexError.NoMemory) }
 {
     if bytes.len() > MAX_SOURCE_LEN {

@@ -9,6 +9,8 @@ mod lexing;
 mod numerals;
 mod pieces;
 mod signs;
+#[cfg(test)]
+mod tests;
 mod tokens;
 mod words;
 
