@@ -2,7 +2,7 @@
 #![tactic(auto)]
 
 mod access;
-//mod asker;
+mod asker;
 mod control;
 mod environment;
 mod image;
@@ -12,4 +12,4 @@ mod results;
 mod step;
 
 pub use image::Image;
-pub use machine::{Machine, MachineEnd, Phase};
+pub use machine::Machine;

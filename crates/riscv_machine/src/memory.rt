@@ -7,7 +7,7 @@ ghost use Rattle.riscv_isa.specs.declared.place.Region.TheVariants.{Local};
 ghost use Rattle.riscv_machine.specs.Places.{EndsWithin, IsSmall};
 
 use pan_base::{NoMemory, Size};
-use riscv_isa::{Place, Region};
+use riscv_isa::{Buffer, Place, Region};
 use std::alloc::Global;
 use std::marker::Model;
 
@@ -136,6 +136,16 @@ impl DataMemory {
         ensures { result.now ≡ self.now.local }
     {
         self.local.as_slice()
+    }
+
+    /// A part of local memory.
+    pub fn part(&self, buffer: Buffer) -> &[u8]
+        requires { buffer.at + buffer.count ≤ length self.now.local }
+        ensures bytes { result.now ≡ part self.now.local buffer.at buffer.count }
+        ensures size { length result.now ≡ buffer.count }
+    {
+        let at = buffer.at as usize;
+        &self.local[at..at + buffer.count as usize]
     }
 
     /// Where an access goes: its address is a multiple of its size, and it lies wholly in one region or in the shared
