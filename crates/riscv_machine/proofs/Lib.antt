@@ -1,0 +1,2 @@
+pub mod AskerLemmas
+pub mod NameLemmas

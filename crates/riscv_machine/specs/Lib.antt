@@ -1,0 +1,5 @@
+pub mod Parts
+pub mod Places
+pub mod View
+pub mod Machine
+pub mod Taking

@@ -1,0 +1,51 @@
+-- A machine's state, configuration and meaning.
+use Rattle.std.specs.Prelude.{◌≡◌, ◌⊎◌, ◌+◌, ◌≤◌, ℕ, List, length, true, false}
+use Rattle.pan_base.specs.Events.{Replied, Behaviour}
+use Rattle.pan_port.specs.Asker.{Meaning}
+use Rattle.riscv_isa.specs.Step.{State, Config}
+use Rattle.riscv_isa.specs.Machine.{continue, run}
+use Rattle.riscv_machine.specs.declared.machine.Machine.{Machine}
+use Rattle.riscv_machine.specs.declared.machine.Phase.TheVariants.{Running}
+use Rattle.riscv_machine.specs.View.{config_in, pending_in, ended_in, ahead_in, IsUnrefused}
+
+-- the registers, the program counter, the code, the names and data memory of a machine
+abbrev pub state_of : Machine → State
+state_of m = record { registers = m.registers; pc = m.pc; code = m.image.code; names = m.image.names; memory = m.memory }
+
+-- its state, and whether it runs, waits or is over
+abbrev pub config_of : Machine → Config
+config_of m = config_in m.phase (state_of m)
+
+-- at most so many steps from a configuration
+abbrev pub goes : Config → List Replied → ℕ → Behaviour
+goes c replies k = continue c (run k) replies
+
+-- what a configuration means, with so many bytes of local memory
+abbrev pub meaning_in : Config → ℕ → Meaning
+meaning_in c size = record {
+  go = goes c;
+  ahead = ahead_in c;
+  pending = pending_in c;
+  ended = ended_in c;
+  size = size;
+  frugal = true;
+  starved = false;
+}
+
+-- what a machine means
+abbrev pub meaning_of : Machine → Meaning
+meaning_of m = meaning_in (config_of m) (length m.memory.local)
+
+-- the same number of bytes of local memory
+abbrev pub HasSize : Machine → Machine → Type 0
+HasSize old new = length new.memory.local ≡ length old.memory.local
+
+-- So many steps of the budget were used.
+pub record Ran (old new : Machine) (budget used : ℕ) : Type 0 where
+  pub within : used ≤ budget
+  pub goes : (replies : List Replied) (k : ℕ) → goes (config_of old) replies (used + k) ≡ goes (config_of new) replies k
+  pub bound : (k : ℕ) → ahead_in (config_of new) k ≤ ahead_in (config_of old) (used + k)
+  pub size : HasSize old new
+  -- one that didn't run stays as it is, and one that ran was not stopped
+  pub origin : ((new ≡ old) × (used ≡ 0)) ⊎ ((old.phase ≡ Running) × IsUnrefused new.phase)
+  pub spent : new.phase ≡ Running → used ≡ budget
