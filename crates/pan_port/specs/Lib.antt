@@ -1,3 +1,4 @@
 pub mod Buffers
 pub mod Device
 pub mod Asker
+pub mod Drive

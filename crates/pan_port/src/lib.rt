@@ -3,6 +3,8 @@
 
 mod asker;
 mod device;
+mod driving;
 
 pub use asker::{Advance, Asker, Pause};
 pub use device::{Answer, Device};
+pub use driving::{DriveFault, drive};
