@@ -5,6 +5,7 @@
 #[cfg(test)]
 mod assembled_words;
 mod bits;
+mod code;
 mod codes;
 mod decoding;
 mod encoding;
@@ -15,6 +16,7 @@ mod laws;
 mod pending;
 mod place;
 
+pub use code::{Code, Names};
 pub use decoding::decode;
 pub use encoding::encode;
 pub use instr::Instr;

@@ -1,0 +1,92 @@
+-- What is read from the bytes of an image.
+use Rattle.std.proofs.Common.{◌≡◌, ℕ, zero, suc, ◌+◌, ◌-◌, ◌%◌, ◌^◌, ◌<◌, ◌≤◌, Bool, true, false, cond, ltb, eqb, not, List, [], ◌∷◌, ◌++◌, length, take, drop, replicate, codes, Option, Some, None, refl, sym, ap, subst, ◌∙◌, append_assoc, arith, IsTrue}
+use Rattle.std.specs.List.{list_any, starts_with}
+use Rattle.std.specs.Option.{unwrap_or, ForSome}
+use Rattle.std.proofs.lemmas.Bool.{le-ltb, ne_eqb}
+use Rattle.std.proofs.lemmas.List.{append-nil, take_all, take_at, drop_at, drop-drop, length-append, length-replicate}
+use Rattle.riscv_isa.specs.Image.{IsLawfulImage, ImageOf, layout, names_part, are_foreign_names}
+use Rattle.image_file.specs.declared.header.Header.{Header}
+use Rattle.image_file.specs.Faults.{first_fault, header_tests, name_tests, end_tests, has_more, fault_of}
+use Rattle.image_file.specs.Fields.{header, header_of, padding, size, names_bytes, padding_bytes, code_bytes, bound_in, names_at}
+use Rattle.image_file.proofs.FaultLaws.{at_end}
+use Rattle.image_file.proofs.HeaderLaws.{fields, header_of-header}
+use Rattle.image_file.proofs.ImageLaws.{IsRight, right_header}
+use Rattle.image_file.proofs.NameLaws.{names_again, some_is}
+
+-- the bytes are read as these parts, and nothing is wrong with them
+pub record Reads (bytes code : List ℕ) (names : List (List ℕ)) (bound : Option ℕ) : Type 0 where
+  pub code_is : code_bytes bytes ≡ code
+  pub names_are : names_at (header_of bytes).name_count (names_bytes bytes) ≡ Some (names, [])
+  pub bound_is : bound_in (header_of bytes).bound ≡ bound
+  pub right : fault_of bytes ≡ None
+
+none_other : (n : ℕ) → list_any (λ b. not (eqb b 0)) (replicate n 0) ≡ false
+none_other zero = refl
+none_other (suc n) = none_other n
+
+word_below : (bound : Option ℕ) → ForSome bound (λ n. n < 2 ^ 64 - 1) → unwrap_or bound (2 ^ 64 - 1) < 2 ^ 64
+word_below None h = omega arith
+word_below (Some n) h = let lt = h n refl in omega arith
+
+bound_back : (bound : Option ℕ) → ForSome bound (λ n. n < 2 ^ 64 - 1) → bound_in (unwrap_or bound (2 ^ 64 - 1)) ≡ bound
+bound_back None h = refl
+bound_back (Some n) h =
+    let lt = h n refl in
+    let apart : n ≡ 2 ^ 64 - 1 → ⊥ = λ e. omega arith in
+    rw (ne_eqb n (2 ^ 64 - 1) apart) refl
+
+-- the names of a written part
+names_back : (names : List (List ℕ)) (lawful : IsTrue (are_foreign_names names)) → (names_at (length names) (names_part names) ≡ Some (names, [])) × (first_fault (name_tests (names_part names) 0 (length names)) ≡ None)
+unfolding names_at
+names_back names lawful =
+    let start : names_at 0 (names_part names) ≡ Some ([], names_part names ++ []) = rw (append-nil (names_part names)) refl in
+    let all = names_again (names_part names) [] names [] start lawful in
+    let k : 0 + length names ≡ length names = omega arith in
+    (rw k at all.0, all.1)
+
+reads_layout : (bytes code : List ℕ) (names : List (List ℕ)) (bound : Option ℕ) → IsLawfulImage code names bound → bytes ≡ layout code names bound → Reads bytes code names bound
+reads_layout bytes code names bound l spelled =
+    let part = names_part names in
+    let n = length part in
+    let pad : List ℕ = replicate (padding n) 0 in
+    let word = unwrap_or bound (2 ^ 64 - 1) in
+    let head = header (length code) (length names) word n in
+    let front : bytes ≡ head ++ (part ++ (pad ++ code)) = spelled ∙ append_assoc (head ++ part) pad code ∙ append_assoc head part (pad ++ code) in
+    let says : header_of bytes ≡ fields (length code) (length names) word n = ap header_of front ∙ header_of-header (length code) (length names) word n (part ++ (pad ++ code)) (omega arith) (omega arith) (word_below bound l.bounded) (omega arith) in
+    let behind_header : drop 32 bytes ≡ part ++ (pad ++ code) = ap (drop 32) front in
+    let behind_names : drop (32 + n) bytes ≡ pad ++ code = sym (drop-drop n 32 bytes) ∙ ap (drop n) behind_header ∙ drop_at part (pad ++ code) n refl in
+    let behind_padding : drop (32 + n + padding n) bytes ≡ code = sym (drop-drop (padding n) (32 + n) bytes) ∙ ap (drop (padding n)) behind_names ∙ drop_at pad code (padding n) (length-replicate (padding n) 0) in
+    let part_is : names_bytes bytes ≡ part = rw (says, behind_header) (take_at part (pad ++ code) n refl) in
+    let pad_is : padding_bytes bytes ≡ pad = rw (says, behind_names) (take_at pad code (padding n) (length-replicate (padding n) 0)) in
+    let pad_len : length pad ≡ padding n = length-replicate (padding n) 0 in
+    let whole : length bytes ≡ size (fields (length code) (length names) word n) =
+    rw front (omega (arith, length-append part (pad ++ code), length-append pad code, pad_len)) in
+    let b = names_back names l.named in
+    let names_are : names_at (header_of bytes).name_count (names_bytes bytes) ≡ Some (names, []) = rw (part_is, says) b.0 in
+    let no_name : first_fault (name_tests (names_bytes bytes) 0 (header_of bytes).name_count) ≡ None = rw (part_is, says) b.1 in
+    let magic : starts_with eqb (codes "PNK1") (take 4 bytes) ≡ true = ap (λ (bs : List ℕ). starts_with eqb (codes "PNK1") (take 4 bs)) front in
+    let there : size (fields (length code) (length names) word n) ≤ length bytes = omega arith in
+    let right : IsRight bytes (header_of bytes) = subst (IsRight bytes) (sym says) (record { magic = magic; long = omega arith; whole = l.whole; most = l.most; entry = refl; count = l.count; names = l.part; zero = refl; there = there }) in
+    let no_more : has_more (names_bytes bytes) (header_of bytes).name_count ≡ false = rw names_are refl in
+    let no_other : list_any (λ b. not (eqb b 0)) (padding_bytes bytes) ≡ false = rw pad_is (none_other (padding n)) in
+    let within : length bytes ≤ size (header_of bytes) = rw says (omega arith) in
+    let no_tail : ltb (size (header_of bytes)) (length bytes) ≡ false = le-ltb _ _ within in
+    let end : first_fault (end_tests bytes) ≡ None = rw (no_more, no_other, no_tail) refl in
+    record {
+      code_is = rw (says, behind_padding) (take_all (length code) code (omega arith));
+      names_are = names_are;
+      bound_is = rw says (bound_back bound l.bounded);
+      right = at_end bytes None (right_header bytes right) no_name end;
+    }
+
+pub image_reads : (bytes code : List ℕ) (names : List (List ℕ)) (bound : Option ℕ) → ImageOf bytes code names bound → Reads bytes code names bound
+image_reads bytes code names bound image = reads_layout bytes code names bound image.lawful image.spelled
+
+-- one row of bytes is one image
+pub same_image : (bytes code code' : List ℕ) (names names' : List (List ℕ)) (bound bound' : Option ℕ) → ImageOf bytes code names bound → ImageOf bytes code' names' bound'
+    → (code ≡ code') × (names ≡ names') × (bound ≡ bound')
+same_image bytes code code' names names' bound bound' a b =
+    let r = image_reads bytes code names bound a in
+    let s = image_reads bytes code' names' bound' b in
+    let both : names ≡ names' = ap (λ (p : List (List ℕ) × List ℕ). p.0) (some_is (names, []) (names', []) (sym r.names_are ∙ s.names_are)) in
+    (sym r.code_is ∙ s.code_is, both, sym r.bound_is ∙ s.bound_is)
