@@ -10,6 +10,8 @@ mod machine;
 mod memory;
 mod results;
 mod step;
+#[cfg(test)]
+mod tests;
 
 pub use image::Image;
 pub use machine::Machine;
