@@ -7,6 +7,8 @@ mod device;
 mod driving;
 mod replies;
 mod stop_after;
+#[cfg(test)]
+mod tests;
 
 pub use asker::{Advance, Asker, Pause};
 pub use device::{Answer, Device};
