@@ -10,7 +10,7 @@ use Rattle.pan_base.specs.Causes.{Rose}
 use Rattle.pan_base.specs.Events.{Asked, Replied, Event, Ending, Exit, Uncaught, Stopped, Asks, Spent, Stack, Fault, Fails, Behaviour, only, before, end_of}
 use Rattle.pan_base.specs.Sinks.{SinkState, feeds}
 use Rattle.pan_base.specs.Trace.{trace_text, event_line}
-use Rattle.pan_base.proofs.TookLemmas.{Took-none, Took-more}
+use Rattle.pan_base.proofs.TookLemmas.{Took-none, Took-more, TookFront-on}
 use Rattle.pan_port.specs.declared.asker.Advance.{Advance}
 use Rattle.pan_port.specs.Asker.{Meaning, Advances, IsAsking, IsOver, HasEnded, Starves}
 use Rattle.pan_port.specs.Device.{Gave}
@@ -40,6 +40,9 @@ replies-push (f ∷ events) e rest = ap (λ t. f.reply ∷ t) (replies-push even
 text-push : (events : List Event) (e : Event) → trace_text (events ++ e ∷ []) ≡ trace_text events ++ event_line e.request e.reply
 text-push events e = flat_map-append (λ e. event_line e.request e.reply) events (e ∷ []) ∙ ap (λ t. trace_text events ++ t) (append-nil (event_line e.request e.reply))
 
+text-front : (events more : List Event) → trace_text (events ++ more) ≡ trace_text events ++ trace_text more
+text-front events more = flat_map-append (λ e. event_line e.request e.reply) events more
+
 module _ {D : Type 0} (gives : Gives D) where
   Answered-push : (d mid new : D) (events : List Event) (e : Event) → Answered gives d events mid → gives mid e.request (Gave e.reply) new → Answered gives d (events ++ e ∷ []) new
   Answered-push d mid new [] e h g = (new, subst (λ m. gives m e.request (Gave e.reply) new) h g, refl)
@@ -65,6 +68,9 @@ module _ {D : Type 0} (gives : Gives D) where
     within = omega (arith, s.steps);
     mid = a';
     did = s.did;
+    prefix =
+        let run = ap (λ r. a.go r budget) (sym (append-nil (replies_of s.events))) ∙ ap (a.go (replies_of s.events ++ [])) (sym s.steps) ∙ s.did.goes [] left in
+        TookFront-on was now now (trace_text s.events) [] (trace_text (a'.go [] left).events) _ s.did.took record { count = 0; within = omega arith; took = Took-none now } (ap (λ o. trace_text o.events) run ∙ text-front s.events (a'.go [] left).events);
     starves = starves;
     wants = sym frugal ∙ starves.wants;
   }
@@ -116,6 +122,11 @@ module _ {D : Type 0} (gives : Gives D) where
       fits = u.fits;
       given = u.given;
       front = u.front;
+      prefix =
+          let next = asking.event u.reply [] (left - step.used) u.fits in
+          let e : Event = record { request = q; reply = u.reply } in
+          let run = ap (a.go (replies_of s.events ++ u.reply ∷ [])) (sym spent_steps) ∙ moved.goes (u.reply ∷ []) (left - step.used) ∙ ap (after s.events) next.1 in
+          TookFront-on was now now' (trace_text s.events) (event_line q u.reply) (trace_text next.0.events) _ s.did.took u.front (ap (λ o. trace_text o.events) run ∙ text-front s.events (e ∷ next.0.events));
       fault = omega (arith, u.fault, later);
     }
 

@@ -94,6 +94,7 @@ pub record Unwritten {D : Type 0} (gives : Gives D) (a a' : Meaning) (old new : 
   pub fits : Fits request reply
   pub given : gives mid request (Gave reply) new
   pub front : TookFront put now (event_line request reply)
+  pub prefix : TookFront was now (trace_text (a.go (replies_of events ++ reply ∷ []) budget).events)
   pub fault : Rose was.faults now.faults
 
 -- The asker found no memory after these events, and their lines are put.
@@ -103,6 +104,7 @@ pub record Hungry {D : Type 0} (gives : Gives D) (a a' : Meaning) (old new : D) 
   pub within : used ≤ budget
   pub mid : Meaning
   pub did : Did gives a mid old new was now used events
+  pub prefix : TookFront was now (trace_text (a.go (replies_of events) budget).events)
   pub starves : Starves mid a'
   pub wants : a.frugal ≡ false
 

@@ -1,5 +1,5 @@
 use Rattle.std.proofs.Common.{arith, refl, ◌∙◌}
-use Rattle.pan_port.proofs.Runs.{nothing, goes_on, spent, over, gave_up, silent, unwritten}
+use Rattle.pan_port.proofs.Runs.{nothing, hungry, goes_on, spent, over, gave_up, silent, unwritten}
 use Rattle.pan_port.proofs.driving.drive.Goals as goal
 
 pub turns-init : goal.turns-init
@@ -54,3 +54,7 @@ returns-in-Unwritten-clause-write g c _ =
     let m = c.in-Ok.ensures in
     let p = rw c.in-Asks.is at m.pauses in
     unwritten g.D.Device.gives _ _ _ _ _ _ _ _ _ _ c.turns.invariant.so_far m _ _ _ p.0 p.1 c.turns.invariant.keeps.later_faults (c.in-Unwritten.ensures.served p.0 p.1.asks)
+
+pub returns-in-Err-clause-memory : goal.returns-in-Err-clause-memory
+returns-in-Err-clause-memory g c _ =
+    hungry g.D.Device.gives _ _ _ _ _ _ _ _ _ c.turns.invariant.keeps.frugal c.turns.invariant.so_far c.in-Err.ensures
