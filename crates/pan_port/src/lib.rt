@@ -2,7 +2,16 @@
 #![tactic(auto)]
 
 mod asker;
+mod counts;
 mod device;
+mod driving;
+mod replies;
+mod stop_after;
+#[cfg(test)]
+mod tests;
 
 pub use asker::{Advance, Asker, Pause};
 pub use device::{Answer, Device};
+pub use driving::{DriveFault, drive};
+pub use replies::{OwnReply, ReplyList};
+pub use stop_after::StopAfter;
