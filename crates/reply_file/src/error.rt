@@ -1,5 +1,7 @@
 //! Why a reply file is refused.
 
+use std::alloc::AllocError;
+
 /// What is wrong with a line.
 #[derive(Clone, Copy, Debug, PartialEq, Eq)]
 pub enum Cause {
@@ -18,4 +20,15 @@ pub enum ReplyFileError {
     Line(u64, Cause),
     /// There was no memory.
     NoMemory,
+}
+
+impl From<AllocError> for ReplyFileError {
+    ghost use Rattle.std.specs.Prelude.{◌≡◌};
+    ghost use Rattle.reply_file.specs.declared.error.ReplyFileError.TheVariants.{NoMemory};
+
+    ghost from_gives = { λ _ e. e ≡ NoMemory };
+
+    fn from(_error: AllocError) -> ReplyFileError {
+        ReplyFileError::NoMemory
+    }
 }

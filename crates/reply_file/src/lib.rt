@@ -1,8 +1,14 @@
 //! Reply files: what a device is to reply, a line for each reply.
 #![tactic(auto)]
 
+mod cutting;
 mod error;
+mod numbers;
+mod own_reply;
 mod reading;
 
+pub use cutting::{next_line, next_word};
 pub use error::{Cause, ReplyFileError};
+pub use numbers::number;
+pub use own_reply::OwnReply;
 pub use reading::read_replies;
