@@ -1,4 +1,4 @@
-mod FindLemmas
+mod TestLemmas
 mod WordLemmas
 mod NumeralLemmas
 mod KindLemmas
