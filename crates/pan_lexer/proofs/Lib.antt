@@ -7,4 +7,5 @@ mod SignLemmas
 mod TokenLemmas
 mod PieceLemmas
 mod RowLemmas
+mod OrderLemmas
 mod RefusalLemmas
