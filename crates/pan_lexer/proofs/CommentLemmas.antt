@@ -5,7 +5,7 @@ use Rattle.std.proofs.lemmas.Bool.Decides.{Decides-eqb}
 use Rattle.pan_base.specs.Lexing.{IsGap, WhiteSpace, LineComment, BlockComment, ends_line, has_close}
 use Rattle.pan_base.specs.Spelling.{is_space}
 use Rattle.pan_lexer.specs.Pieces.{is_in_line, after_close, after_comment, after_gap}
-use Rattle.pan_lexer.proofs.FindLemmas.{both_true, if_some, no_some}
+use Rattle.pan_lexer.proofs.TestLemmas.{both_true, if_some, no_some}
 use Rattle.pan_lexer.proofs.WordLemmas.{stops, front_split, front_passes, front_stops, front_length, after_front}
 
 -- in one byte no comment ends

@@ -11,7 +11,7 @@ use Rattle.pan_base.specs.declared.events.Size.TheVariants.{B1, B2, B4, B8}
 use Rattle.pan_base.specs.declared.tokens.Keyword.{Keyword}
 use Rattle.pan_base.specs.declared.tokens.Keyword.TheVariants as keyword
 use Rattle.pan_lexer.specs.Pieces.{keyword_of, named, size_of, access_of, begins_letter, foreign_of}
-use Rattle.pan_lexer.proofs.FindLemmas.{both_true, if_some, mapped_some, no_some, none_or_some, found_passes, none_passes, none_found}
+use Rattle.pan_lexer.proofs.TestLemmas.{not_true, both_true, if_some, mapped_some, no_some, none_or_some, found_passes, none_passes, none_found}
 
 -- ---- reserved words and names
 
@@ -75,10 +75,6 @@ named_spells word spelled =
     (λ e. let free : not (is_reserved word) ≡ true = ap not (no_keyword word e) in
     subst (λ k. Spells word (named word k)) (sym e) (refl, spelled, free))
     (λ k e. subst (λ k. Spells word (named word k)) (sym e) (keyword_is word k e))
-
-not_true : (b : Bool) → not b ≡ true → b ≡ false
-not_true true e = sym e
-not_true false e = refl
 
 pub name_named : (word : List ℕ) → not (is_reserved word) ≡ true → named word (keyword_of word) ≡ Name word
 name_named word free = ap (named word) (not_reserved word (not_true (is_reserved word) free))

@@ -1,4 +1,4 @@
-mod FindLemmas
+mod TestLemmas
 mod WordLemmas
 mod NumeralLemmas
 mod KindLemmas
@@ -7,4 +7,5 @@ mod SignLemmas
 mod TokenLemmas
 mod PieceLemmas
 mod RowLemmas
+mod OrderLemmas
 mod RefusalLemmas

@@ -8,6 +8,7 @@ use Rattle.std.specs.List.{list_all}
 use Rattle.std.proofs.lemmas.Bool.Decides.{nat_tests}
 use Rattle.pan_base.specs.Names.{is_digit}
 use Rattle.pan_base.specs.Spelling.{value_after, digit_value, is_hex_digit, IsNumeral, Decimal, Hexadecimal}
+use Rattle.pan_lexer.proofs.TestLemmas.{both_true}
 use Rattle.pan_lexer.specs.Pieces.{is_digit_in, digit_of, value_of, number_of}
 
 -- a digit comes
@@ -17,14 +18,6 @@ digit_is base b n e = by_test (is_digit_in base b) e
     by_test : (t : Bool) → cond t (Some (digit_value b)) None ≡ Some n → (t ≡ true) × (n ≡ digit_value b)
     by_test true e = (refl, cc)
     by_test false e = absurd (cc)
-
--- none comes
-pub no_digit_is : (base b : ℕ) → digit_of base b ≡ None → is_digit_in base b ≡ false
-no_digit_is base b e = by_test (is_digit_in base b) e
-  where
-    by_test : (t : Bool) → cond t (Some (digit_value b)) None ≡ None → t ≡ false
-    by_test true e = absurd (cc)
-    by_test false e = refl
 
 -- digits make a number no smaller
 pub value_after_grows : (base n : ℕ) (ds : List ℕ) → 0 < base → n ≤ value_after base n ds
@@ -42,10 +35,6 @@ by_tests_both : (a b : Bool) (n : ℕ) → a ≡ true → b ≡ true → by_test
 unfolding by_tests
 by_tests_both a b n p q = rw (p, q) refl
 
-by_tests_first : (a b : Bool) (n : ℕ) → a ≡ false → by_tests a b n ≡ None
-unfolding by_tests
-by_tests_first a b n p = rw p refl
-
 by_tests_second : (a b : Bool) (n : ℕ) → b ≡ false → by_tests a b n ≡ None
 unfolding by_tests
 by_tests_second true b n q = rw q refl
@@ -57,11 +46,6 @@ value_of_small base [] some all small = absurd (omega arith)
 value_of_small base (d ∷ ds) some all small =
     let fits : ltb (value_after base (0 * base + digit_value d) ds) (2 ^ 64) ≡ true = grind (arith, nat_tests) in
     by_tests_both _ _ _ all fits
-
-pub value_of_other : (base : ℕ) (ds : List ℕ) → list_all (is_digit_in base) ds ≡ false → value_of base ds ≡ None
-unfolding by_tests
-value_of_other base [] other = refl
-value_of_other base (d ∷ ds) other = by_tests_first _ _ _ other
 
 value_of_large : (base : ℕ) (ds : List ℕ) → 2 ^ 64 ≤ value_after base 0 ds → value_of base ds ≡ None
 unfolding by_tests
@@ -140,11 +124,6 @@ number_spelled word n e = by_test (bytes_eq (take 2 word) (codes "0x")) refl e
     by_test : (t : Bool) → bytes_eq (take 2 word) (codes "0x") ≡ t → (if t then value_of 16 (drop 2 word) else value_of 10 word) ≡ Some n → IsNumeral word n × (n < 2 ^ 64)
     by_test true is e = let v = value_of_some 16 (drop 2 word) n e in (hexadecimal_spelled word n (begins_0x word is) v, v.small)
     by_test false is e = let v = value_of_some 10 word n e in (decimal_spelled word n v, v.small)
-
--- both tests hold
-pub both_true : (a b : Bool) → (a && b) ≡ true → (a ≡ true) × (b ≡ true)
-both_true true b e = (refl, e)
-both_true false b e = absurd (cc)
 
 and_false : (a : Bool) → (a && false) ≡ false
 and_false true = refl

@@ -6,7 +6,7 @@ use Rattle.pan_base.specs.Spelling.{is_space}
 use Rattle.pan_base.specs.Tokens.{Kind, Name, Reserved, Number, Load, Store, Foreign, Base, Biw, ASign, Spells, keyword_text, sign_text}
 use Rattle.pan_base.specs.Names.{is_spelled}
 use Rattle.pan_lexer.specs.Pieces.{sign_of, sign_token, token_of, after_gap, or_else, piece_of}
-use Rattle.pan_lexer.proofs.FindLemmas.{if_some, mapped_some, no_some, none_or_some}
+use Rattle.pan_lexer.proofs.TestLemmas.{different, if_some, mapped_some, no_some, none_or_some}
 use Rattle.pan_lexer.proofs.KindLemmas.{keyword_spelled}
 use Rattle.pan_lexer.proofs.SignLemmas.{sign_found}
 use Rattle.pan_lexer.proofs.TokenLemmas.{TokenAt, token_found, token_given, numeral_word}
@@ -50,9 +50,6 @@ gap_no_token (b ∷ bs) rest e =
     (λ _ same. no_some rest same)
     same)
     e
-
-different : {A : Type 0} {a : A} → None ≡ Some a → ⊥
-different e = cc
 
 token_no_gap : (bytes rest : List ℕ) (k : Kind) → token_of bytes ≡ Some (k, rest) → after_gap bytes ≡ None
 token_no_gap bytes rest k e =

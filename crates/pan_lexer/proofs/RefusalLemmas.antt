@@ -9,29 +9,8 @@ use Rattle.pan_lexer.specs.Refusal.{IsRefusedAt, Refusal, IsStuckBy, begins_othe
 use Rattle.pan_lexer.specs.TokenRow.{IsLawful, IsInOrder, source_limit}
 use Rattle.pan_lexer.specs.declared.error.LexError.{LexError}
 use Rattle.pan_lexer.specs.declared.error.LexError.TheVariants.{TooLong, BadByte, BadNumber, OpenComment, NoMemory}
-use Rattle.pan_lexer.proofs.FindLemmas.{both_true}
+use Rattle.pan_lexer.proofs.TestLemmas.{not_true, both_true}
 use Rattle.pan_lexer.proofs.RowLemmas.{one_row, one_stuck_place, no_row_where_stuck, row_in_order}
-
--- a choice of errors by two tests
-by_tests : (number block : Bool) (place : ℕ) → LexError
-by_tests number block place = cond number (BadNumber place) (cond block (OpenComment place) (BadByte place))
-
--- ---- the reason holds
-
-reason_of : (bytes rest : List ℕ) (place : ℕ) → length bytes ≤ source_limit → IsStuckAt bytes place rest → (number block : Bool)
-    → begins_number rest ≡ number → begins_block rest ≡ block → Refusal bytes (by_tests number block place)
-unfolding by_tests
-reason_of bytes rest place short stuck true block is other = record { short = short; rest = rest; stuck = stuck; begun = is }
-reason_of bytes rest place short stuck false true is other = record { short = short; rest = rest; stuck = stuck; begun = other }
-reason_of bytes rest place short stuck false false is other = record { short = short; rest = rest; stuck = stuck; begun = rw (is, other) refl }
-
-pub stuck_refusal : (bytes : List ℕ) (e : LexError) → length bytes ≤ source_limit → IsStuckBy bytes e → Refusal bytes e
-unfolding by_tests
-stuck_refusal bytes e short by =
-    let place : ℕ = by.0 in
-    let rest : List ℕ = by.1 in
-    let reason : Refusal bytes (error_at place rest) = reason_of bytes rest place short by.2 (begins_number rest) (begins_block rest) refl refl in
-    subst (Refusal bytes) (sym by.3) reason
 
 -- ---- and it's the only one
 
@@ -40,10 +19,6 @@ block_no_number [] e = refl
 block_no_number (b ∷ bs) e =
     let slash : 47 ≡ b = (Decides-eqb 47 b).0 (both_true (eqb 47 b) _ e).0 in
     subst (λ b. is_digit b ≡ false) slash refl
-
-not_true : (b : Bool) → not b ≡ true → b ≡ false
-not_true true e = sym e
-not_true false e = refl
 
 -- the same place and rest
 module _ (bytes rest : List ℕ) (place : ℕ) (stuck : IsStuckAt bytes place rest) where
@@ -72,11 +47,6 @@ module _ (bytes rest : List ℕ) (place : ℕ) (stuck : IsStuckAt bytes place re
   only_error short NoMemory r = absurd r
 
 -- ---- the answers of `lex`
-
--- the error that it ends with
-pub error_is : (bytes : List ℕ) (e : LexError) → length bytes ≤ source_limit → (e ≡ NoMemory) ⊎ IsStuckBy bytes e → (e ≡ NoMemory) ⊎ Refusal bytes e
-error_is bytes e short (inl none) = inl none
-error_is bytes e short (inr by) = inr (stuck_refusal bytes e short by)
 
 pub error_lexed : (bytes : List ℕ) (e : LexError) → (e ≡ NoMemory) ⊎ IsStuckBy bytes e → (row : List Placed) → Lexes bytes row → e ≡ NoMemory
 error_lexed bytes e (inl none) row lexes = none

@@ -9,7 +9,7 @@ use Rattle.pan_lexer.specs.Found.{tokens_in}
 use Rattle.pan_lexer.specs.Pieces.{piece_of, after_gap, token_of}
 use Rattle.pan_lexer.specs.Laws.{OneRow, NoRowWhereStuck, OneStuckPlace, RowOrStuck}
 use Rattle.pan_lexer.specs.TokenRow.{IsInOrder}
-use Rattle.pan_lexer.proofs.FindLemmas.{none_or_some}
+use Rattle.pan_lexer.proofs.TestLemmas.{different, none_or_some}
 use Rattle.pan_lexer.proofs.TokenLemmas.{TokenAt}
 use Rattle.pan_lexer.proofs.CommentLemmas.{GapAt}
 use Rattle.pan_lexer.proofs.PieceLemmas.{PieceAt, piece_found, piece_given, piece_shorter, token_length}
@@ -47,9 +47,6 @@ same_piece bytes more rest k l one other =
     let same : ◌≡◌ {A = Option (Option Kind × List ℕ)} (Some (k, more)) (Some (l, rest)) = sym one ∙ other in
     let pair : ◌≡◌ {A = Option Kind × List ℕ} (k, more) (l, rest) = cc in
     (ap (λ (p : Option Kind × List ℕ). p.0) pair, ap (λ (p : Option Kind × List ℕ). p.1) pair)
-
-different : {A : Type 0} {a : A} → None ≡ Some a → ⊥
-different e = cc
 
 gap_piece : (bytes text more : List ℕ) → bytes ≡ text ++ more → IsGap text more → piece_of bytes ≡ Some (None, more)
 gap_piece bytes text more all gap = piece_given bytes None more (record { text = text; all = all; gap = gap })

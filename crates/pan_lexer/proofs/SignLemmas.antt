@@ -11,7 +11,7 @@ use Rattle.pan_base.specs.Tokens.{sign_text, signs, is_longest_sign}
 use Rattle.pan_base.specs.declared.tokens.Sign.{Sign}
 use Rattle.pan_base.specs.declared.tokens.Sign.TheVariants as sign
 use Rattle.pan_lexer.specs.Pieces.{longest_first, sign_of}
-use Rattle.pan_lexer.proofs.FindLemmas.{both_true, no_some, none_or_some, found_passes, found_among, each_fails, all_pass, if_some}
+use Rattle.pan_lexer.proofs.TestLemmas.{both_true, no_some, none_or_some, found_passes, found_among, each_fails, all_pass, if_some}
 
 -- three bytes tell the sign
 pub sign_by_three : (bytes : List ℕ) → sign_of (get_or bytes 0 0 ∷ get_or bytes 1 0 ∷ get_or bytes 2 0 ∷ []) ≡ sign_of bytes

@@ -13,7 +13,7 @@ use Rattle.pan_base.specs.declared.tokens.Keyword.{Keyword}
 use Rattle.pan_base.specs.declared.tokens.Sign.{Sign}
 use Rattle.pan_base.specs.declared.tokens.Sign.TheVariants as sign
 use Rattle.pan_lexer.specs.Pieces.{word_of, after_word, number_of, keyword_of, named, access_of, begins_letter, foreign_of, sign_of, number_token, word_token, access_token, foreign_token, sign_token, or_else, token_of}
-use Rattle.pan_lexer.proofs.FindLemmas.{both_true, if_some, mapped_some, no_some}
+use Rattle.pan_lexer.proofs.TestLemmas.{both_true, if_some, mapped_some, no_some}
 use Rattle.pan_lexer.proofs.KindLemmas.{keyword_spelled, named_spells, name_named, keyword_named, IsAccess, Loads, Stores, access_is, load_found, store_found, IsForeign, TheBase, TheBiw, TheName, foreign_is, foreign_found, base_found, biw_found}
 use Rattle.pan_lexer.proofs.NumeralLemmas.{number_spelled, number_of_spelled}
 use Rattle.pan_lexer.proofs.SignLemmas.{sign_at, sign_given}

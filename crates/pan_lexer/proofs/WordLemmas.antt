@@ -8,7 +8,7 @@ use Rattle.std.proofs.lemmas.Bool.Decides.{nat_tests}
 use Rattle.pan_base.specs.Names.{is_digit, is_letter, is_word_byte}
 use Rattle.pan_base.specs.Spelling.{begins_no_word}
 use Rattle.pan_lexer.specs.Pieces.{word_of, after_word}
-use Rattle.pan_lexer.proofs.FindLemmas.{both_true}
+use Rattle.pan_lexer.proofs.TestLemmas.{both_true}
 
 -- ---- fronts
 

@@ -1,6 +1,6 @@
 //! The tokens of a source.
 
-ghost use Rattle.std.specs.Prelude.{◌≡◌, ◌<◌, length, map, slice_get};
+ghost use Rattle.std.specs.Prelude.{◌≡◌, ◌<◌, ◌≤◌, ◌↔◌, length, map, slice_get, IsTrue};
 ghost use Rattle.pan_base.specs.Tokens.{placed};
 ghost use Rattle.pan_lexer.specs.TokenRow.{IsLawful};
 
@@ -43,6 +43,13 @@ impl<'a> Tokens<'a> {
         self.tokens.len()
     }
 
+    /// Whether there are none.
+    pub fn is_empty(&self) -> bool
+        ensures { IsTrue result ↔ (length self.now.tokens ≡ 0) }
+    {
+        self.len() == 0
+    }
+
     /// How many bytes the source has.
     pub fn source_len(&self) -> usize
         ensures value { result ≡ self.now.source_len }
@@ -54,7 +61,9 @@ impl<'a> Tokens<'a> {
     /// The token of this number, from 0 on.
     pub fn get(&self, i: usize) -> Token<'_>
         requires { i < length self.now.tokens }
-        ensures { slice_get self.now.tokens i ≡ Some (placed result) }
+        ensures token { slice_get self.now.tokens i ≡ Some (placed result) }
+        ensures some { result.span.start < result.span.end }
+        ensures within { result.span.end ≤ self.now.source_len }
     {
         self.tokens.as_slice()[i]
     }

@@ -1,5 +1,5 @@
--- The first of a list that passes a test, and tests of each.
-use Rattle.std.proofs.Common.{◌≡◌, Bool, true, false, not, ◌&&◌, ◌||◌, cond, List, [], ◌∷◌, Option, Some, None, option_map, subst, refl}
+-- Tests, choices by them, and the first of a list that passes one.
+use Rattle.std.proofs.Common.{◌≡◌, Bool, true, false, not, ◌&&◌, ◌||◌, cond, List, [], ◌∷◌, Option, Some, None, option_map, sym, subst, refl}
 use Rattle.std.specs.List.{find, list_all, list_any}
 
 -- ---- choices
@@ -9,10 +9,17 @@ pub both_true : (a b : Bool) → (a && b) ≡ true → (a ≡ true) × (b ≡ tr
 both_true true b e = (refl, e)
 both_true false b e = absurd (cc)
 
+pub not_true : (b : Bool) → not b ≡ true → b ≡ false
+not_true true e = sym e
+not_true false e = refl
+
+pub different : {A : Type 0} {a : A} → None ≡ Some a → ⊥
+different e = cc
+
 -- the choice gave something
 pub if_some : {A P : Type 0} (t : Bool) (x y : Option A) (a : A) → (t ≡ true → x ≡ Some a → P) → (t ≡ false → y ≡ Some a → P) → cond t x y ≡ Some a → P
-if_some true x y a yes_ no_ e = yes_ refl e
-if_some false x y a yes_ no_ e = no_ refl e
+if_some true x y a one other e = one refl e
+if_some false x y a one other e = other refl e
 
 pub mapped_some : {A B P : Type 0} (f : A → B) (o : Option A) (b : B) → ((a : A) → o ≡ Some a → f a ≡ b → P) → option_map f o ≡ Some b → P
 mapped_some f None b go e = absurd (cc)
@@ -22,8 +29,8 @@ pub no_some : {A P : Type 0} (a : A) → None ≡ Some a → P
 no_some a e = absurd (cc)
 
 pub none_or_some : {A : Type 0} (P : Type 0) (o : Option A) → (o ≡ None → P) → ((a : A) → o ≡ Some a → P) → P
-none_or_some P None none_ some_ = none_ refl
-none_or_some P (Some a) none_ some_ = some_ a refl
+none_or_some P None one other = one refl
+none_or_some P (Some a) one other = other a refl
 
 -- ---- the first that passes
 
