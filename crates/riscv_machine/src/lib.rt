@@ -5,7 +5,6 @@ mod access;
 mod asker;
 mod control;
 mod environment;
-mod image;
 mod machine;
 mod memory;
 mod results;
@@ -13,5 +12,4 @@ mod step;
 #[cfg(test)]
 mod tests;
 
-pub use image::Image;
 pub use machine::Machine;

@@ -6,8 +6,8 @@ ghost use Rattle.riscv_isa.specs.Image.{are_foreign_names};
 ghost use Rattle.riscv_isa.specs.Machine.{booted, machine, IsLawfulMemory, IsLawfulStack};
 ghost use Rattle.riscv_machine.specs.View.{is_lawful};
 
-use crate::image::Image;
 use crate::memory::DataMemory;
+use image_file::Image;
 use pan_base::NoMemory;
 use riscv_isa::Pending;
 use std::alloc::Global;

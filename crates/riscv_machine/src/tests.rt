@@ -1,10 +1,8 @@
 //! Known programs, and what the machine does with them.
 
-ghost use Rattle.std.specs.Prelude.{◌≡◌, ◌≤◌, ◌%◌, length, IfOk};
-
-use crate::image::Image;
 use crate::machine::Machine;
-use pan_base::{Blob, End, List, NoMemory, Reply, Request, Size};
+use image_file::{Image, read_image};
+use pan_base::{End, Reply, Request, Size};
 use pan_port::{Advance, Asker, Pause};
 use std::alloc::Global;
 use std::test::Fail;
@@ -24,20 +22,25 @@ const ADVANCES: [(&[u8], u64, Pause); 4] = [
     (&[], 1, Pause::Ended(End::Fault)),
 ];
 
+/// The image of this code, with at most 255 bytes, no names and no bound.
+fn image_of(alloc: Global, code: &[u8]) -> Result<Image, Fail> {
+    let mut bytes = Vec::from_slice(alloc, b"PNK1")?;
+    bytes.push(u8::try_from(code.len())?)?;
+    bytes.extend_from_slice(&[0; 11])?;
+    bytes.extend_from_slice(&[255; 8])?;
+    bytes.extend_from_slice(&[0; 8])?;
+    bytes.extend_from_slice(code)?;
+    Ok(read_image(alloc, &bytes)?)
+}
+
 /// A machine with this code, 16 bytes of local memory and 16 bytes of stack.
-fn machine_of(alloc: Global, code: &[u8]) -> Result<Machine, NoMemory>
-    requires whole { length code.now % 4 ≡ 0 }
-    requires most { length code.now ≤ 1024 }
-{
-    let code = Blob::from_slice(alloc, code)?;
-    let image = Image::new(code, List::new(alloc), None);
-    Machine::boot(alloc, image, &[0; 16], 16)
+fn machine_of(alloc: Global, code: &[u8]) -> Result<Machine, Fail> {
+    Ok(Machine::boot(alloc, image_of(alloc, code)?, &[0; 16], 16)?)
 }
 
 #[test]
 fn runs_to_an_end(rt: HostRuntime) -> Result<(), Fail> {
     for (code, used, pause) in ADVANCES {
-        assert!(rt; code.len() % 4 == 0 && code.len() <= 1024);
         let mut machine = machine_of(rt.alloc(), code)?;
         assert_eq!(rt; machine.advance(10)?, Advance { used, pause });
         assert!(rt; machine.request().is_none());
