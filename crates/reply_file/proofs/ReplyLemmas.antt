@@ -6,7 +6,7 @@ use Rattle.pan_base.specs.Events.{Replied}
 use Rattle.reply_file.specs.declared.error.Cause.{Cause}
 use Rattle.reply_file.specs.declared.error.ReplyFileError.{ReplyFileError}
 use Rattle.reply_file.specs.declared.error.ReplyFileError.TheVariants as told
-use Rattle.reply_file.specs.declared.own_reply.OwnReply.{OwnReply}
+use Rattle.pan_port.specs.declared.replies.OwnReply.{OwnReply}
 use Rattle.reply_file.specs.Lines.{words, lines}
 use Rattle.reply_file.specs.Replies.{Said, Silence, Reply, Wrong, Refusal, said, reply_before, line_before, said_from}
 use Rattle.reply_file.specs.Told.{own_replied, Adds, RefusesLine, Refuses}

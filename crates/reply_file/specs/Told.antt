@@ -4,8 +4,8 @@ use Rattle.pan_base.specs.Events.{Replied, Value, Done, Bytes, Stop}
 use Rattle.reply_file.specs.declared.error.Cause.{Cause}
 use Rattle.reply_file.specs.declared.error.ReplyFileError.{ReplyFileError}
 use Rattle.reply_file.specs.declared.error.ReplyFileError.TheVariants as told
-use Rattle.reply_file.specs.declared.own_reply.OwnReply.{OwnReply}
-use Rattle.reply_file.specs.declared.own_reply.OwnReply.TheVariants as own
+use Rattle.pan_port.specs.declared.replies.OwnReply.{OwnReply}
+use Rattle.pan_port.specs.declared.replies.OwnReply.TheVariants as own
 use Rattle.reply_file.specs.Replies.{Said, Silence, Reply, Wrong, Refusal}
 
 -- the reply, without where its bytes lie

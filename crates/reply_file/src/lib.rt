@@ -4,11 +4,9 @@
 mod cutting;
 mod error;
 mod numbers;
-mod own_reply;
 mod reading;
 
 pub use cutting::{next_line, next_word};
 pub use error::{Cause, ReplyFileError};
 pub use numbers::number;
-pub use own_reply::OwnReply;
 pub use reading::read_replies;

@@ -10,8 +10,8 @@ ghost use Rattle.reply_file.specs.Told.{own_replied, said_by, Adds, RefusesLine,
 use crate::cutting::{next_line, next_word};
 use crate::error::{Cause, ReplyFileError};
 use crate::numbers::number;
-use crate::own_reply::OwnReply;
 use pan_base::List;
+use pan_port::OwnReply;
 use std::alloc::Global;
 
 /// The reply, which no word may follow.
@@ -105,3 +105,6 @@ pub fn read_replies(alloc: Global, bytes: &[u8]) -> Result<List<OwnReply>, Reply
         }
     }
 }
+
+#[cfg(test)]
+mod tests;
