@@ -1,6 +1,8 @@
 //! What no contract says: that runs succeed, and the text of a run.
 
-ghost use Rattle.std.specs.Prelude.{◌≡◌};
+ghost use Rattle.std.specs.Prelude.{◌≡◌, ℕ};
+ghost use Rattle.pan_base.specs.Events.{end_of};
+ghost use Rattle.pan_port.specs.Writer.{ending};
 
 use crate::{
     Advance, Answer, Asker, Device, DriveFault, OwnReply, Pause, ReplyList, StopAfter, drive,
@@ -25,27 +27,51 @@ impl Writer {
     }
 }
 
+fn end_told(end: End) -> End
+    ensures { (n : ℕ) → end_of (ending end n) ≡ result }
+{
+    match end {
+        End::Stopped => End::Stopped,
+        _ => End::Exit(0),
+    }
+}
+
 impl Asker for Writer {
     ghost use Rattle.pan_port.specs.Writer.{writer};
 
     ghost meaning = { λ s. writer s.pause s.left };
 
     fn advance(&mut self, budget: u64) -> Result<Advance, NoMemory> {
-        let before = self.pause;
-        if before == Pause::Spent && budget > 0 {
-            self.pause = match self.left {
-                0 => Pause::Ended(End::Exit(0)),
-                _ => Pause::Asks,
-            };
-            return Ok(Advance {
-                used: 1,
-                pause: self.pause,
-            });
+        match self.pause {
+            Pause::Spent => {
+                if budget == 0 {
+                    return Ok(Advance {
+                        used: 0,
+                        pause: Pause::Spent,
+                    });
+                }
+                if self.left == 0 {
+                    self.pause = Pause::Ended(End::Exit(0));
+                    return Ok(Advance {
+                        used: 1,
+                        pause: Pause::Ended(End::Exit(0)),
+                    });
+                }
+                self.pause = Pause::Asks;
+                Ok(Advance {
+                    used: 1,
+                    pause: Pause::Asks,
+                })
+            }
+            Pause::Asks => Ok(Advance {
+                used: 0,
+                pause: Pause::Asks,
+            }),
+            Pause::Ended(end) => Ok(Advance {
+                used: 0,
+                pause: Pause::Ended(end_told(end)),
+            }),
         }
-        Ok(Advance {
-            used: 0,
-            pause: before,
-        })
     }
 
     fn request(&self) -> Option<Request<'_>> {
