@@ -71,7 +71,8 @@ fn write_over(array: &mut [u8], bytes: &[u8]) -> Answer
 impl ReplyList {
     /// Nothing answered yet.
     pub fn new(replies: List<OwnReply>) -> ReplyList
-        ensures { (result.replies ≡ replies) × (result.next ≡ 0) × (result.counts.stops ≡ 0) × (result.counts.silences ≡ 0) }
+        ensures { (result.replies ≡ replies) × (result.next ≡ 0)
+            × (result.counts.stops ≡ 0) × (result.counts.silences ≡ 0) }
     {
         ReplyList {
             replies,
@@ -84,7 +85,8 @@ impl ReplyList {
     fn go_on(&mut self, answer: Answer)
         ensures replies { self.new.replies ≡ self.old.replies }
         ensures next { self.new.next ≡ min (self.old.next + 1) (length self.old.replies) }
-        ensures counted { Counted answer self.old.counts.stops self.new.counts.stops self.old.counts.silences self.new.counts.silences }
+        ensures counted { Counted answer self.old.counts.stops self.new.counts.stops
+            self.old.counts.silences self.new.counts.silences }
     {
         self.next = self.next.saturating_add(1).min(self.replies.len());
         self.counts.count(answer);

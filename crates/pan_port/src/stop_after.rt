@@ -19,7 +19,8 @@ pub struct StopAfter<D> {
 impl<D> StopAfter<D> {
     /// Stops after so many answers.
     pub fn new(inner: D, after: u64) -> StopAfter<D>
-        ensures { (result.inner ≡ inner) × (result.left ≡ after) × (result.counts.stops ≡ 0) × (result.counts.silences ≡ 0) }
+        ensures { (result.inner ≡ inner) × (result.left ≡ after)
+            × (result.counts.stops ≡ 0) × (result.counts.silences ≡ 0) }
     {
         StopAfter {
             inner,
@@ -32,7 +33,8 @@ impl<D> StopAfter<D> {
     fn count(&mut self, answer: Answer)
         ensures inner { self.new.inner ≡ self.old.inner }
         ensures left { self.new.left ≡ (if is_quiet answer then self.old.left else self.old.left - 1) }
-        ensures counted { Counted answer self.old.counts.stops self.new.counts.stops self.old.counts.silences self.new.counts.silences }
+        ensures counted { Counted answer self.old.counts.stops self.new.counts.stops
+            self.old.counts.silences self.new.counts.silences }
     {
         if answer != Answer::Quiet {
             self.left = self.left.saturating_sub(1);
