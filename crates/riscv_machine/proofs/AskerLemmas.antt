@@ -1,14 +1,13 @@
 -- A machine advances and answers as an asker.
-use Rattle.std.proofs.Common.{◌≡◌, ℕ, ◌+◌, ◌≤◌, zero, suc, refl, sym, ap, ◌∙◌, subst, arith, inl, inr, List, [], ◌∷◌, Option, Some, None, Bool, true, false, length}
+use Rattle.std.proofs.Common.{◌≡◌, ℕ, ◌+◌, ◌≤◌, suc, refl, sym, ap, ◌∙◌, subst, arith, inl, inr, List, Some, None, Bool, true, false, length}
 use Rattle.std.specs.Prelude.{◌⊎◌, IsTrue, IsSome}
 use Rattle.std.proofs.lemmas.Bool.{false≢true}
-use Rattle.pan_base.specs.Events.{Asked, Replied, Fits, fits, Ending, Stopped, Spent, Behaviour, only, before, end_of}
+use Rattle.pan_base.specs.Events.{Asked, Replied, Fits, fits, Ending, Stopped, Spent, only}
 use Rattle.pan_port.specs.declared.asker.Pause.{Pause}
-use Rattle.pan_port.specs.declared.asker.Pause.TheVariants as pause
-use Rattle.pan_port.specs.Asker.{Meaning, Advances, Answers, Takes, Ends, HasEnded, IsAsking, IsOver, PausesAt}
+use Rattle.pan_port.specs.Asker.{Advances, Answers, Takes, Ends, HasEnded, IsAsking, IsOver, PausesAt}
 use Rattle.riscv_isa.specs.declared.pending.Pending.{Pending}
 use Rattle.riscv_isa.specs.Step.{State, Config, Runs, Waits, Over, step, request_of, resumed}
-use Rattle.riscv_isa.specs.Machine.{taken, continue, run}
+use Rattle.riscv_isa.specs.Machine.{taken, run}
 use Rattle.riscv_machine.specs.declared.machine.MachineEnd.{MachineEnd}
 use Rattle.riscv_machine.specs.declared.machine.MachineEnd.TheVariants as machine_end
 use Rattle.riscv_machine.specs.declared.machine.Machine.{Machine}
