@@ -1,2 +1,3 @@
-pub mod AskerLemmas
+pub mod AnswerLemmas
+pub mod AdvanceLemmas
 pub mod NameLemmas

@@ -10,7 +10,13 @@ use Rattle.riscv_machine.specs.View.{config_in, pending_in, ended_in, ahead_in, 
 
 -- the registers, the program counter, the code, the names and data memory of a machine
 abbrev pub state_of : Machine → State
-state_of m = record { registers = m.registers; pc = m.pc; code = m.image.code; names = m.image.names; memory = m.memory }
+state_of m = record {
+  registers = m.registers;
+  pc = m.pc;
+  code = m.image.code;
+  names = m.image.names;
+  memory = m.memory;
+}
 
 -- its state, and whether it runs, waits or is over
 abbrev pub config_of : Machine → Config
@@ -40,12 +46,24 @@ meaning_of m = meaning_in (config_of m) (length m.memory.local)
 abbrev pub HasSize : Machine → Machine → Type 0
 HasSize old new = length new.memory.local ≡ length old.memory.local
 
--- So many steps of the budget were used.
+-- after so many steps of the old machine the new one goes on
+abbrev pub GoesOn : Machine → Machine → ℕ → Type 0
+GoesOn old new used = (replies : List Replied) (k : ℕ) →
+    goes (config_of old) replies (used + k) ≡ goes (config_of new) replies k
+
+-- the bound on the events of the new machine is within that of the old
+abbrev pub IsBounded : Machine → Machine → ℕ → Type 0
+IsBounded old new used = (k : ℕ) → ahead_in (config_of new) k ≤ ahead_in (config_of old) (used + k)
+
+-- a machine that didn't run stays as it is, and one that ran was not stopped by a reply
+abbrev pub ComesFrom : Machine → Machine → ℕ → Type 0
+ComesFrom old new used = ((new ≡ old) × (used ≡ 0)) ⊎ ((old.phase ≡ Running) × IsUnrefused new.phase)
+
+-- so many steps of the budget were used
 pub record Ran (old new : Machine) (budget used : ℕ) : Type 0 where
   pub within : used ≤ budget
-  pub goes : (replies : List Replied) (k : ℕ) → goes (config_of old) replies (used + k) ≡ goes (config_of new) replies k
-  pub bound : (k : ℕ) → ahead_in (config_of new) k ≤ ahead_in (config_of old) (used + k)
+  pub goes : GoesOn old new used
+  pub bound : IsBounded old new used
   pub size : HasSize old new
-  -- one that didn't run stays as it is, and one that ran was not stopped
-  pub origin : ((new ≡ old) × (used ≡ 0)) ⊎ ((old.phase ≡ Running) × IsUnrefused new.phase)
+  pub origin : ComesFrom old new used
   pub spent : new.phase ≡ Running → used ≡ budget

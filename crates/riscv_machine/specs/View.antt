@@ -1,8 +1,7 @@
 -- A machine's phase as the definitions see it.
-use Rattle.std.specs.Prelude.{ℕ, zero, suc, ◌+◌, ◌&&◌, Bool, true, nat_lt, nat_le, Option, Some, None}
+use Rattle.std.specs.Prelude.{ℕ, ◌+◌, ◌&&◌, Bool, true, nat_lt, nat_le, Option, Some, None}
 use Rattle.pan_base.specs.Events.{Asked, Ending, Exit, Uncaught, Stopped, Stack, Fault}
 use Rattle.riscv_isa.specs.declared.pending.Buffer.{Buffer}
-use Rattle.riscv_isa.specs.declared.pending.Pending.{Pending}
 use Rattle.riscv_isa.specs.declared.pending.Pending.TheVariants as pending
 use Rattle.riscv_isa.specs.Step.{State, Config, Runs, Waits, Over, request_of}
 use Rattle.riscv_machine.specs.declared.machine.MachineEnd.{MachineEnd}

@@ -33,7 +33,8 @@ impl Machine {
         requires rd { rd < 32 }
         requires pc { self.old.pc + 4 < 2 ^ 64 }
         requires phase { self.old.phase ≡ Running }
-        ensures config { config_of self.new ≡ load (place_of self.old.memory addr (byte_count (loads op))) op rd addr (state_of self.old) }
+        ensures config { config_of self.new ≡
+            load (place_of self.old.memory addr (byte_count (loads op))) op rd addr (state_of self.old) }
         ensures size { HasSize self.old self.new }
         ensures unrefused { IsUnrefused self.new.phase }
     {
@@ -55,7 +56,8 @@ impl Machine {
     pub(crate) fn store(&mut self, size: Size, addr: u64, value: u64)
         requires pc { self.old.pc + 4 < 2 ^ 64 }
         requires phase { self.old.phase ≡ Running }
-        ensures config { config_of self.new ≡ store (place_of self.old.memory addr (byte_count size)) size addr value (state_of self.old) }
+        ensures config { config_of self.new ≡
+            store (place_of self.old.memory addr (byte_count size)) size addr value (state_of self.old) }
         ensures size { HasSize self.old self.new }
         ensures unrefused { IsUnrefused self.new.phase }
     {

@@ -30,7 +30,9 @@ impl Machine {
     /// in local memory.
     fn buffer(&self, addr: u64, count: u64) -> Option<Buffer>
         ensures { MatchOption result (is_in Local self.now.memory addr count ≡ false) (λ b.
-            (is_in Local self.now.memory addr count ≡ true) × (b ≡ buffer addr count) × IsTrue (is_inside b (length self.now.memory.local))) }
+            (is_in Local self.now.memory addr count ≡ true)
+            × (b ≡ buffer addr count)
+            × IsTrue (is_inside b (length self.now.memory.local))) }
     {
         if self.memory.is_local(addr, count) {
             Some(Buffer {

@@ -61,10 +61,12 @@ impl Machine {
     pub fn boot(alloc: Global, image: Image, memory: &[u8], stack: u64) -> Result<Machine, NoMemory>
         requires memory { IsLawfulMemory memory.now }
         requires stack { IsLawfulStack stack }
-        ensures config { IfOk result (λ m. config_of m ≡ Runs (booted image.code image.names memory.now stack)) }
+        ensures config { IfOk result (λ m.
+            config_of m ≡ Runs (booted image.code image.names memory.now stack)) }
         ensures go { IfOk result (λ m. (replies : List Replied) (k : ℕ) →
             (meaning_of m).go replies k ≡ machine image.code image.names memory.now stack replies k) }
     {
+        // the image's lawfulness comes with its code
         let _code = image.code();
         let mut registers = [0; 32];
         registers[2] = 0x2000_0000 + stack;

@@ -26,9 +26,19 @@ impl Model for DataMemory {
 
     ghost Value = { Memory };
 
-    ghost view = { λ d. record { block = d.block.items; globals = d.globals.items; local = d.local.items; stack = d.stack.items } };
+    ghost view = { λ d. record {
+      block = d.block.items;
+      globals = d.globals.items;
+      local = d.local.items;
+      stack = d.stack.items;
+    } };
 
-    ghost invariant = { λ d. IsSmall (record { block = d.block.items; globals = d.globals.items; local = d.local.items; stack = d.stack.items }) };
+    ghost invariant = { λ d. IsSmall (record {
+      block = d.block.items;
+      globals = d.globals.items;
+      local = d.local.items;
+      stack = d.stack.items;
+    }) };
 }
 
 /// Whether an access of so many bytes lies wholly in what begins at `from` and has `count` bytes.
@@ -121,7 +131,12 @@ impl DataMemory {
     pub fn new(alloc: Global, local: &[u8], stack: u64) -> Result<DataMemory, NoMemory>
         requires local { length local.now ≤ 67108864 }
         requires stack { stack ≤ 67108864 }
-        ensures { IfOk result (λ d. d ≡ record { block = replicate 1024 0; globals = []; local = local.now; stack = replicate stack 0 }) }
+        ensures { IfOk result (λ d. d ≡ record {
+          block = replicate 1024 0;
+          globals = [];
+          local = local.now;
+          stack = replicate stack 0;
+        }) }
     {
         Ok(DataMemory {
             block: zeros(alloc, 1024)?,

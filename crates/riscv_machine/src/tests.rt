@@ -9,33 +9,61 @@ use std::test::Fail;
 
 /// LUI x5, 0x40000; ADDI x5, x5, 0; ADDI x6, x0, 5; SD x6, 0(x5); ADDI x11, x0, 7; ADDI x10, x0, 0; ADDI x17, x0, 0;
 /// ECALL.
-const STORE_5: [u8; 32] = [
-    0xb7, 0x02, 0x00, 0x40, 0x93, 0x82, 0x02, 0x00, 0x13, 0x03, 0x50, 0x00, 0x23, 0xb0, 0x62, 0x00,
-    0x93, 0x05, 0x70, 0x00, 0x13, 0x05, 0x00, 0x00, 0x93, 0x08, 0x00, 0x00, 0x73, 0x00, 0x00, 0x00,
+const STORES_5: [u32; 8] = [
+    0x4000_02b7,
+    0x0002_8293,
+    0x0050_0313,
+    0x0062_b023,
+    0x0070_0593,
+    0x0000_0513,
+    0x0000_0893,
+    0x0000_0073,
 ];
 
-/// A code, and what an advance of at most 10 steps does with it.
-const ADVANCES: [(&[u8], u64, Pause); 4] = [
-    (&[0x73, 0, 0, 0], 1, Pause::Ended(End::Exit(0))),
-    (&[0x6f, 0, 0, 0], 10, Pause::Spent),
-    (&[0, 0, 0, 0], 1, Pause::Ended(End::Fault)),
+/// LUI x10, 0x10000; ADDI x11, x0, 2; ADDI x12, x10, 8; ADDI x13, x0, 4; ADDI x14, x0, 0; ADDI x17, x0, 1; ECALL;
+/// LW x11, 8(x10); ADDI x10, x0, 0; ADDI x17, x0, 0; ECALL.
+const CALLS_F: [u32; 11] = [
+    0x1000_0537,
+    0x0020_0593,
+    0x0085_0613,
+    0x0040_0693,
+    0x0000_0713,
+    0x0010_0893,
+    0x0000_0073,
+    0x0085_2583,
+    0x0000_0513,
+    0x0000_0893,
+    0x0000_0073,
+];
+
+/// A code, and what an advance of at most 10 steps does with it: ECALL; JAL x0, 0; a word that stands for no
+/// instruction; nothing.
+const ADVANCES: [(&[u32], u64, Pause); 4] = [
+    (&[0x0000_0073], 1, Pause::Ended(End::Exit(0))),
+    (&[0x0000_006f], 10, Pause::Spent),
+    (&[0x0000_0000], 1, Pause::Ended(End::Fault)),
     (&[], 1, Pause::Ended(End::Fault)),
 ];
 
-/// The image of this code, with at most 255 bytes, no names and no bound.
-fn image_of(alloc: Global, code: &[u8]) -> Result<Image, Fail> {
+/// The local memory of the machines here.
+const MEMORY: [u8; 16] = [9, 8, 7, 6, 5, 4, 3, 2, 1, 1, 1, 1, 0, 0, 0, 0];
+
+/// The image of this code, of at most 63 words, with the name `f` and no bound.
+fn image_of(alloc: Global, code: &[u32]) -> Result<Image, Fail> {
     let mut bytes = Vec::from_slice(alloc, b"PNK1")?;
-    bytes.push(u8::try_from(code.len())?)?;
-    bytes.extend_from_slice(&[0; 11])?;
+    bytes.push(u8::try_from(code.len())?.saturating_mul(4))?;
+    bytes.extend_from_slice(&[0, 0, 0, 0, 0, 0, 0, 1, 0, 0, 0])?;
     bytes.extend_from_slice(&[255; 8])?;
-    bytes.extend_from_slice(&[0; 8])?;
-    bytes.extend_from_slice(code)?;
+    bytes.extend_from_slice(&[3, 0, 0, 0, 0, 0, 0, 0, 1, 0, b'f', 0])?;
+    for word in code {
+        bytes.extend_from_slice(&word.to_le_bytes())?;
+    }
     Ok(read_image(alloc, &bytes)?)
 }
 
-/// A machine with this code, 16 bytes of local memory and 16 bytes of stack.
-fn machine_of(alloc: Global, code: &[u8]) -> Result<Machine, Fail> {
-    Ok(Machine::boot(alloc, image_of(alloc, code)?, &[0; 16], 16)?)
+/// A machine with this code and 16 bytes of stack.
+fn machine_of(alloc: Global, code: &[u32]) -> Result<Machine, Fail> {
+    Ok(Machine::boot(alloc, image_of(alloc, code)?, &MEMORY, 16)?)
 }
 
 #[test]
@@ -50,7 +78,7 @@ fn runs_to_an_end(rt: HostRuntime) -> Result<(), Fail> {
 
 #[test]
 fn asks_and_goes_on(rt: HostRuntime) -> Result<(), Fail> {
-    let mut machine = machine_of(rt.alloc(), &STORE_5)?;
+    let mut machine = machine_of(rt.alloc(), &STORES_5)?;
     let asks = Advance {
         used: 4,
         pause: Pause::Asks,
@@ -72,5 +100,36 @@ fn asks_and_goes_on(rt: HostRuntime) -> Result<(), Fail> {
         (machine.pc(), machine.register(5)),
         (0x1_0000_001c, 0x4000_0000)
     );
+    Ok(())
+}
+
+#[test]
+fn calls_a_foreign_function(rt: HostRuntime) -> Result<(), Fail> {
+    // the bytes that come for the array, and what is left to do: a load of them with the sign, and the end
+    let replies: [(&[u8], u64, End); 2] = [
+        (&[1, 2, 3, 0x80], 4, End::Exit(0xffff_ffff_8003_0201)),
+        (&[1, 2, 3], 0, End::Stopped),
+    ];
+    for (reply, used, end) in replies {
+        let mut machine = machine_of(rt.alloc(), &CALLS_F)?;
+        assert_eq!(rt; machine.advance(10)?.used, 7);
+        match machine.request() {
+            Some(
+                Request::Foreign {
+                    number,
+                    name,
+                    conf,
+                    array,
+                },
+            ) => {
+                assert_eq!(rt; (number, name), (0, b"f".as_slice()));
+                assert_eq!(rt; (conf, array), ([9, 8].as_slice(), [1, 1, 1, 1].as_slice()));
+            }
+            _ => assert!(rt; false),
+        }
+        machine.answer(Reply::Bytes(reply));
+        let pause = Pause::Ended(end);
+        assert_eq!(rt; machine.advance(10)?, Advance { used, pause });
+    }
     Ok(())
 }

@@ -1,5 +1,8 @@
-use Rattle.riscv_machine.proofs.AskerLemmas.{advances}
+use Rattle.riscv_machine.proofs.AdvanceLemmas.{advances}
 use Rattle.riscv_machine.proofs.asker.MachineAsker.advance.Goals as goal
 
 pub returns : goal.returns
-returns c = advances c.args.self.now c.run-used.new.self c.args.budget c.run-used.result c.run-used.ensures c.pause-pause.result c.pause-pause.ensures
+returns c =
+    let run = c.run-used in
+    let pause = c.pause-pause in
+    advances c.args.self.now run.new.self c.args.budget run.result run.ensures pause.result pause.ensures

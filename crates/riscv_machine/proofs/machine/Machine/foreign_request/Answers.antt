@@ -1,4 +1,4 @@
-use Rattle.std.proofs.Common.{◌≡◌, ◌≤◌, [], ap, subst, sym, ◌∙◌, arith, List, ℕ, not, true}
+use Rattle.std.proofs.Common.{◌≡◌, [], subst, sym, arith, List, ℕ, not, true}
 use Rattle.std.specs.Prelude.{◌==◌}
 use Rattle.std.specs.List.{list_all}
 use Rattle.riscv_machine.proofs.NameLemmas.{no_feeds}

@@ -1,14 +1,20 @@
 use Rattle.std.proofs.Common.{arith, inr, ◌∙◌}
-use Rattle.riscv_machine.proofs.AskerLemmas.{goes_on, bound_on, started}
+use Rattle.riscv_machine.proofs.AdvanceLemmas.{goes_on, bound_on, started}
 use Rattle.riscv_machine.proofs.machine.Machine.run.Goals as goal
 
 pub steps-preserved : goal.steps-preserved
 steps-preserved c =
-    let i = c.steps.invariant in
+    let old = c.args.self.now in
+    let mid = c.steps.self in
+    let new = c.step.new.self in
+    let used = c.steps.used in
+    let invariant = c.steps.invariant in
+    let running = c.in-Running.is in
+    let stepped = c.step.ensures.config in
     record {
       within = omega arith;
-      goes = goes_on c.args.self.now c.steps.self c.step.new.self c.steps.used c.in-Running.is c.step.ensures.config i.goes;
-      bound = bound_on c.args.self.now c.steps.self c.step.new.self c.steps.used c.in-Running.is c.step.ensures.config i.bound;
-      size = c.step.ensures.size ∙ i.size;
-      origin = inr (started c.args.self.now c.steps.self c.steps.used i.origin c.in-Running.is, c.step.ensures.unrefused);
+      goes = goes_on old mid new used running stepped invariant.goes;
+      bound = bound_on old mid new used running stepped invariant.bound;
+      size = c.step.ensures.size ∙ invariant.size;
+      origin = inr (started old mid used invariant.origin running, c.step.ensures.unrefused);
     }

@@ -1,18 +1,14 @@
-use Rattle.std.proofs.Common.{◌≡◌, ℕ, ◌+◌, ◌-◌, ◌≤◌, List}
-use Rattle.std.specs.Prelude.{◌⊎◌}
-use Rattle.pan_base.specs.Events.{Replied}
-use Rattle.riscv_machine.specs.declared.machine.Phase.TheVariants.{Running}
-use Rattle.riscv_machine.specs.Machine.{config_of, goes, HasSize}
-use Rattle.riscv_machine.specs.View.{ahead_in, IsUnrefused}
+use Rattle.std.proofs.Common.{◌-◌, ◌≤◌}
+use Rattle.riscv_machine.specs.Machine.{GoesOn, IsBounded, HasSize, ComesFrom}
 use Rattle.riscv_machine.proofs.machine.Machine.run.Given as goal
 
 abbrev pub invariant-steps : goal.invariant-steps
 invariant-steps l = record {
   within : l.used ≤ l.budget;
-  goes : (replies : List Replied) (k : ℕ) → goes (config_of l.fn.self) replies (l.used + k) ≡ goes (config_of l.self) replies k;
-  bound : (k : ℕ) → ahead_in (config_of l.self) k ≤ ahead_in (config_of l.fn.self) (l.used + k);
+  goes : GoesOn l.fn.self l.self l.used;
+  bound : IsBounded l.fn.self l.self l.used;
   size : HasSize l.fn.self l.self;
-  origin : ((l.self ≡ l.fn.self) × (l.used ≡ 0)) ⊎ ((l.fn.self.phase ≡ Running) × IsUnrefused l.self.phase);
+  origin : ComesFrom l.fn.self l.self l.used;
 }
 
 abbrev pub decreases-steps : goal.decreases-steps

@@ -1,4 +1,4 @@
-use Rattle.std.proofs.Common.{rules, ◌≡◌, refl}
+use Rattle.std.proofs.Common.{refl}
 use Rattle.riscv_machine.proofs.memory.DataMemory.new.Goals as goal
 
 pub returns : goal.returns
