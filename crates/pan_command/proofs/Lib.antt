@@ -1,3 +1,4 @@
 pub mod Completeness
 pub mod Storing
 pub mod WordLemmas
+pub mod WrongImage

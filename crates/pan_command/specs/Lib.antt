@@ -4,3 +4,4 @@ pub mod Words
 pub mod Outside
 pub mod Compile
 pub mod Command
+pub mod Sample

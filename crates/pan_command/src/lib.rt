@@ -3,8 +3,10 @@
 
 mod building;
 mod command;
+mod laws;
 mod status;
 #[cfg(test)]
 mod tests;
 
 pub use command::panc;
+pub use laws::refuses_a_wrong_image;
