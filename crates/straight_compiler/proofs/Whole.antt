@@ -18,7 +18,7 @@ use Rattle.riscv_isa.specs.declared.instr.Instr.{Instr}
 use Rattle.riscv_isa.specs.declared.place.Region.TheVariants as region
 use Rattle.riscv_isa.specs.Regions.{begin, bytes_of}
 use Rattle.riscv_isa.specs.Machine.{run, booted, machine, IsLawfulMemory, IsLawfulStack}
-use Rattle.riscv_isa.specs.Image.{layout}
+use Rattle.riscv_isa.specs.Image.{IsLawfulImage, ImageOf}
 use Rattle.pan_agree.specs.Laws.{IsSourceLike, ForwardInTime}
 use Rattle.pan_agree.specs.Faithful.{Faithful}
 use Rattle.pan_agree.proofs.BothWays.{agrees}
@@ -92,35 +92,32 @@ module _ (program : Program) (main : Function) (functions : program.functions �
     forward memory stack replies m s n ok =
         (length instrs + n, inl (record { same = same memory stack replies m s n ok; in_time = λ spent. omega arith }))
 
-    faithful : (image : List ℕ) → length instrs ≤ 2 ^ 17 → image ≡ layout code [] None → Faithful program image None
-    faithful image short all =
-        let size = spelled_length instrs code spells in
-        record {
-          code = code;
-          names = [];
-          layout = record {
-            lawful = record {
-              whole = omega arith;
-              most = omega arith;
-              bytes = spelled_bytes instrs code spells;
-              named = refl;
-              count = omega arith;
-              part = omega arith;
-              bounded = λ n e. absurd (cc);
-            };
-            spelled = all;
-          };
-          agree = λ memory stack replies m s. agrees stack (source program memory replies) (machine code [] memory stack replies) (steady code [] memory stack replies) (like memory replies) (forward memory stack replies m s);
-        }
+    faithful : (image : List ℕ) → ImageOf image code [] None → Faithful program image None
+    faithful image is = record {
+      code = code;
+      names = [];
+      layout = is;
+      agree = λ memory stack replies m s. agrees stack (source program memory replies) (machine code [] memory stack replies) (steady code [] memory stack replies) (like memory replies) (forward memory stack replies m s);
+    }
 
--- the code is small
-pub small_code : {program : Program} {main : Function} {stmts : List (Spanned StmtKind)} → IsMain program main stmts → weight program ≤ 16384 → (instrs : List Instr) (code : List ℕ)
-    → length instrs ≤ 32 * length stmts → Spells code instrs → length code ≤ 2 ^ 19
-small_code m light instrs code short spells = let few = m.few in omega (arith, spelled_length instrs code spells)
+-- the code may stand in an image
+pub lawful : {program : Program} {main : Function} {stmts : List (Spanned StmtKind)} → IsMain program main stmts → weight program ≤ 16384 → (instrs : List Instr) (code : List ℕ)
+    → length instrs ≤ 32 * length stmts → Spells code instrs → IsLawfulImage code [] None
+lawful m light instrs code short spells =
+    let few = m.few in
+    let size = spelled_length instrs code spells in
+    record {
+      whole = omega arith;
+      most = omega arith;
+      bytes = spelled_bytes instrs code spells;
+      named = refl;
+      count = omega arith;
+      part = omega arith;
+      bounded = λ n e. absurd (cc);
+    }
 
 -- The image of the code of main's statements is faithful to the program.
-pub compiled : {program : Program} {main : Function} {stmts : List (Spanned StmtKind)} → IsMain program main stmts → weight program ≤ 16384 → (instrs : List Instr) (code image : List ℕ)
-    → Performs (in_turn (map does stmts)) instrs → length instrs ≤ 32 * length stmts → Spells code instrs → image ≡ layout code [] None → Faithful program image None
-compiled {program} {main} m light instrs code image performs short spells all =
-    let few = m.few in
-    faithful program main m.functions m.name instrs code (subst (λ ss. Performs (in_turn (map does ss)) instrs) m.body performs) spells image (omega arith) all
+pub compiled : {program : Program} {main : Function} {stmts : List (Spanned StmtKind)} → IsMain program main stmts → (instrs : List Instr) (code image : List ℕ)
+    → Performs (in_turn (map does stmts)) instrs → Spells code instrs → ImageOf image code [] None → Faithful program image None
+compiled {program} {main} m instrs code image performs spells is =
+    faithful program main m.functions m.name instrs code (subst (λ ss. Performs (in_turn (map does ss)) instrs) m.body performs) spells image is

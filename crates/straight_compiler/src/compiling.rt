@@ -21,6 +21,6 @@ pub fn compile(alloc: Global, program: &Program) -> Result<Blob, NoMemory>
     let main = &program.functions.as_slice()[0];
     let instrs = generate(alloc, main.body.stmts.as_slice())?;
     let code = spell(alloc, instrs.as_slice())?;
-    let image = image_of(alloc, code.as_slice())?;
+    let image = image_of(alloc, code)?;
     Ok(image)
 }
