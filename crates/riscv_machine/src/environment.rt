@@ -1,5 +1,5 @@
-//! Calls of the environment (RISC-V unprivileged ISA, section 2.8): an end that the program asks for, and calls of foreign
-//! functions.
+//! Calls of the environment (RISC-V unprivileged ISA, section 2.8): an end that the program asks for, and calls of
+//! foreign functions.
 
 ghost use Rattle.std.specs.Prelude.{◌≡◌, ◌+◌, ◌<◌, ◌^◌, MatchOption, IsTrue, length, true, false};
 ghost use Rattle.riscv_isa.specs.Regions.{is_in};
