@@ -4,7 +4,7 @@ ghost use Rattle.std.specs.Prelude.{◌≡◌, ◌+◌, ◌≤◌, ◌<◌, ◌�
 ghost use Rattle.pan_base.specs.Events.{asked, replied, end_of, Fits};
 ghost use Rattle.pan_port.specs.Buffers.{BuffersFit};
 ghost use Rattle.riscv_isa.specs.Step.{request_of, resumed};
-ghost use Rattle.riscv_machine.specs.View.{ending_of, is_inside};
+ghost use Rattle.riscv_machine.specs.View.{ending_of};
 ghost use Rattle.riscv_machine.specs.Taking.{PausedAt};
 ghost use Rattle.riscv_isa.specs.declared.pending.Pending.TheVariants as pending_of;
 
@@ -113,13 +113,13 @@ impl Machine {
         ensures size { HasSize self.old self.new }
     {
         match (pending, reply) {
-            (Pending::Load { op, rd, .. }, Reply::Value(n)) => self.set_register(
-                rd,
-                l_result(op, n),
-            ),
-            (Pending::Foreign { array, .. }, Reply::Bytes(bytes)) => self
-                .memory
-                .replace(array.at, bytes),
+            (Pending::Load { op, rd, .. }, Reply::Value(n)) => {
+                self.set_register(rd, l_result(op, n));
+            }
+            (Pending::Foreign { array, .. }, Reply::Bytes(bytes)) => {
+                self.memory.replace(array.at, bytes);
+            }
+            // a store is done
             _ => {}
         }
         self.phase = Phase::Running;

@@ -1,7 +1,6 @@
 //! Jumps and branches (RISC-V unprivileged ISA, section 2.5).
 
-ghost use Rattle.std.specs.Prelude.{◌≡◌, ◌+◌, ◌*◌, ◌/◌, ◌<◌, ◌^◌};
-ghost use Rattle.riscv_isa.specs.Results.{plus};
+ghost use Rattle.std.specs.Prelude.{◌≡◌, ◌+◌, ◌<◌, ◌^◌};
 ghost use Rattle.riscv_machine.specs.View.{IsUnrefused};
 
 use crate::machine::{Machine, MachineEnd, Phase};
@@ -10,7 +9,7 @@ use pan_base::Cmp;
 use riscv_isa::Instr;
 
 impl Machine {
-    ghost use Rattle.riscv_isa.specs.Step.{reg, jump, linked, act};
+    ghost use Rattle.riscv_isa.specs.Step.{jump, linked, act};
     ghost use Rattle.riscv_isa.specs.declared.instr.Instr.TheVariants as instr;
     ghost use Rattle.riscv_machine.specs.Machine.{state_of, config_of, HasSize};
     ghost use Rattle.riscv_machine.specs.declared.machine.Phase.TheVariants.{Running};

@@ -1,4 +1,5 @@
-//! Calls of the environment: an end that the program asks for, and calls of foreign functions.
+//! Calls of the environment (RISC-V unprivileged ISA, section 2.8): an end that the program asks for, and calls of
+//! foreign functions.
 
 ghost use Rattle.std.specs.Prelude.{◌≡◌, ◌+◌, ◌<◌, ◌^◌, MatchOption, IsTrue, length, true, false};
 ghost use Rattle.riscv_isa.specs.Regions.{is_in};
@@ -26,8 +27,7 @@ impl Machine {
     ghost use Rattle.riscv_machine.specs.Machine.{state_of, config_of, HasSize};
     ghost use Rattle.riscv_machine.specs.declared.machine.Phase.TheVariants.{Running};
 
-    /// The part of local memory from the address in one register on, of as many bytes as another says, where it lies
-    /// in local memory.
+    /// The part of local memory of so many bytes from an address on, where all of it lies there.
     fn buffer(&self, addr: u64, count: u64) -> Option<Buffer>
         ensures { MatchOption result (is_in Local self.now.memory addr count ≡ false) (λ b.
             (is_in Local self.now.memory addr count ≡ true)

@@ -1,6 +1,6 @@
 //! A machine, its start and its registers.
 
-ghost use Rattle.std.specs.Prelude.{◌≡◌, ◌+◌, ◌*◌, ◌≤◌, ◌<◌, ◌^◌, ℕ, List, length, IsTrue, IfOk};
+ghost use Rattle.std.specs.Prelude.{◌≡◌, ◌+◌, ◌≤◌, ◌<◌, ◌^◌, ℕ, List, length, IsTrue, IfOk};
 ghost use Rattle.pan_base.specs.Events.{Replied};
 ghost use Rattle.riscv_isa.specs.Image.{are_foreign_names};
 ghost use Rattle.riscv_isa.specs.Machine.{booted, machine, IsLawfulMemory, IsLawfulStack};

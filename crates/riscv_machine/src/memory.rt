@@ -1,6 +1,6 @@
 //! Data memory.
 
-ghost use Rattle.std.specs.Prelude.{◌≡◌, ◌+◌, ◌*◌, ◌-◌, ◌%◌, ◌^◌, ◌≤◌, ◌<◌, ◌==◌, [], length, replicate, IsTrue, ◌↔◌, IfOk};
+ghost use Rattle.std.specs.Prelude.{◌≡◌, ◌+◌, ◌*◌, ◌%◌, ◌^◌, ◌≤◌, ◌<◌, ◌==◌, [], length, replicate, IfOk};
 ghost use Rattle.pan_base.specs.Events.{byte_count};
 ghost use Rattle.riscv_isa.specs.Regions.{is_in, bytes_of, with_bytes, is_within, place_of, number_at, with_number, part, with_part};
 ghost use Rattle.riscv_isa.specs.declared.place.Region.TheVariants.{Local};

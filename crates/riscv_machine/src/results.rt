@@ -1,9 +1,9 @@
-//! What the instructions make of the values of registers and of immediates (RISC-V unprivileged ISA, sections 2.4, 4.2
-//! and 13.1).
+//! What the instructions make of the values of registers and of immediates (RISC-V unprivileged ISA, section 2.4, and
+//! its chapters on RV64I and M).
 
 ghost use Rattle.std.specs.Prelude.{◌≡◌, ◌*◌, ◌/◌, ◌^◌, ◌<◌};
 ghost use Rattle.pan_base.specs.Events.{byte_count};
-ghost use Rattle.riscv_isa.specs.Results.{plus, upper, immediate, sign_extended, low_half, truth, r_result, i_result, sh_result, u_result, loads, l_result, stores};
+ghost use Rattle.riscv_isa.specs.Results.{plus, upper, immediate, low_half, r_result, i_result, sh_result, u_result, loads, l_result, stores};
 ghost use Rattle.riscv_isa.specs.Table.{amounts};
 
 use pan_base::{BinOp, Cmp, IOp, LOp, ROp, SOp, ShOp, ShiftOp, Size, UOp};
