@@ -1,3 +1,5 @@
 pub mod Completeness
+pub mod Listed
 pub mod Storing
+pub mod UsedReplies
 pub mod WordLemmas

@@ -3,4 +3,7 @@ pub mod Served
 pub mod Words
 pub mod Outside
 pub mod Compile
+pub mod Run
+pub mod Going
+pub mod Loading
 pub mod Command

@@ -3,6 +3,9 @@
 
 mod building;
 mod command;
+mod lines;
+mod loading;
+mod running;
 mod status;
 #[cfg(test)]
 mod tests;
