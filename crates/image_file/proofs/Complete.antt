@@ -1,5 +1,5 @@
 -- An image is read as what it is.
-use Rattle.std.proofs.Common.{◌≡◌, ◌⊎◌, ℕ, List, Option, Some, None, Result, Ok, Err, refl, sym, ap, ◌∙◌, inl, inr}
+use Rattle.std.proofs.Common.{◌≡◌, ◌⊎◌, ℕ, List, Option, Some, Result, Ok, Err, ap, inl, inr}
 use Rattle.std.specs.Prelude.{IfOk, IfErr}
 use Rattle.riscv_isa.specs.Image.{ImageOf}
 use Rattle.image_file.specs.declared.error.ImageError.{ImageError}

@@ -1,11 +1,12 @@
 -- The first 32 bytes: the row of fields and what they say.
-use Rattle.std.proofs.Common.{◌≡◌, ℕ, ◌+◌, ◌^◌, ◌<◌, ◌≤◌, List, [], ◌∷◌, ◌++◌, length, take, drop, codes, refl, sym, ap, ◌∙◌, append_assoc, arith}
+use Rattle.std.proofs.Common.{◌≡◌, ℕ, ◌+◌, ◌^◌, ◌<◌, ◌≤◌, List, ◌++◌, length, take, drop, codes, refl, sym, ap, arith}
 use Rattle.std.proofs.lemmas.List.{take-append-drop, take-take, drop-take, length-drop}
 use Rattle.byteorder.specs.Endian.{little_number, little_bytes}
 use Rattle.byteorder.specs.Numbers.{little_number-reads_back, little_from-lt}
 use Rattle.pan_base.specs.Words.{IsBytes}
 use Rattle.image_file.specs.declared.header.Header.{Header}
-use Rattle.image_file.specs.Fields.{header, header_of}
+use Rattle.image_file.specs.Fields.{header_of}
+use Rattle.image_file.specs.Split.{header}
 use Rattle.image_file.proofs.Numbers.{IsBytes-drop, bytes_of_number}
 
 -- the fields of an image

@@ -1,21 +1,20 @@
 -- Bytes without a fault are an image, and the bytes of an image have none.
-use Rattle.std.proofs.Common.{◌≡◌, ◌⊎◌, ℕ, zero, suc, ◌+◌, ◌-◌, ◌*◌, ◌%◌, ◌^◌, ◌<◌, ◌≤◌, Bool, true, false, cond, ltb, leb, eqb, ◌&&◌, ◌||◌, not, List, [], ◌∷◌, ◌++◌, length, take, drop, replicate, codes, Option, Some, None, refl, sym, ap, subst, ◌∙◌, append_assoc, arith, inl, inr}
+use Rattle.std.proofs.Common.{◌≡◌, ℕ, ◌+◌, ◌-◌, ◌%◌, ◌^◌, ◌<◌, ◌≤◌, Bool, true, false, cond, ltb, leb, eqb, ◌&&◌, not, List, [], ◌∷◌, ◌++◌, length, take, drop, replicate, codes, Some, None, refl, sym, ap, ◌∙◌, arith}
 use Rattle.std.specs.List.{list_any, starts_with}
 use Rattle.std.specs.Option.{unwrap_or, ForSome}
-use Rattle.std.specs.Str.{bytes_eq}
-use Rattle.std.proofs.lemmas.Bool.{and_parts, or_parts, not-false, ltb-false, ltb-true, leb-true, eqb-true, eqb-false, le-ltb, lt-ltb, le-leb, eq-eqb, cases_lt}
+use Rattle.std.proofs.lemmas.Bool.{and_parts, or_parts, not-false, ltb-false, leb-true, eqb-true, eqb-false, le-ltb, le-leb, eq-eqb}
 use Rattle.std.proofs.lemmas.List.{append-nil, take_all, length-take, length-drop, nil_from_length}
 use Rattle.std.proofs.lemmas.Slice.Eq.{bytes_eq-Decides}
 use Rattle.pan_base.specs.Words.{IsBytes}
-use Rattle.riscv_isa.specs.Image.{IsLawfulImage, ImageOf, layout, names_part, are_foreign_names}
+use Rattle.riscv_isa.specs.Image.{ImageOf, names_part, are_foreign_names}
 use Rattle.image_file.specs.declared.error.FieldName.TheVariants as field
-use Rattle.image_file.specs.declared.error.ImageError.{ImageError}
 use Rattle.image_file.specs.declared.error.ImageError.TheVariants.{Magic, Short, Field, Padding, Tail}
 use Rattle.image_file.specs.declared.header.Header.{Header}
-use Rattle.image_file.specs.Faults.{first_fault, field_tests, header_tests, end_tests, has_more}
-use Rattle.image_file.specs.Fields.{header, header_of, padding, size, names_bytes, padding_bytes, code_bytes, bound_in, names_at}
-use Rattle.image_file.proofs.FaultLaws.{none_holds}
-use Rattle.image_file.proofs.HeaderLaws.{fields, fields_are, join, bound_fits, header-header_of}
+use Rattle.image_file.specs.Faults.{first_fault, header_tests}
+use Rattle.image_file.specs.Fields.{header_of, padding, size, names_bytes, padding_bytes, code_bytes, tail_bytes, names_at, left_after}
+use Rattle.image_file.specs.Split.{bound_in}
+use Rattle.image_file.proofs.FaultLaws.{none_holds, tests_of_end}
+use Rattle.image_file.proofs.HeaderLaws.{fields_are, join, bound_fits, header-header_of}
 use Rattle.image_file.proofs.NameLaws.{names_taken}
 use Rattle.image_file.proofs.Numbers.{IsBytes-drop, IsBytes-take}
 
@@ -100,17 +99,17 @@ assemble bytes head part pad code n p c eh en ep ec le =
 
 -- bytes without a fault are the image of their parts
 pub is_image : (bytes : List ℕ) (names : List (List ℕ)) (left : List ℕ) → IsBytes bytes → first_fault (header_tests bytes) ≡ None → names_at (header_of bytes).name_count (names_bytes bytes) ≡ Some (names, left)
-    → are_foreign_names names ≡ true → first_fault (end_tests bytes) ≡ None → ImageOf bytes (code_bytes bytes) names (bound_in (header_of bytes).bound)
+    → are_foreign_names names ≡ true → first_fault (tests_of_end bytes) ≡ None → ImageOf bytes (code_bytes bytes) names (bound_in (header_of bytes).bound)
 is_image bytes names left fits header_none at lawful end_none =
     let h = header_of bytes in
     let r = header_is_right bytes header_none in
     let t = names_taken h.name_count (names_bytes bytes) names left (IsBytes-take h.names_len (drop 32 bytes) (IsBytes-drop 32 bytes fits)) at in
-    let f1 = none_holds (has_more (names_bytes bytes) h.name_count) (Field field.Names) _ end_none in
+    let f1 = none_holds (ltb 0 (length (left_after h.name_count (names_bytes bytes)))) (Field field.Names) _ end_none in
     let f2 = none_holds (list_any (λ b. not (eqb b 0)) (padding_bytes bytes)) Padding _ f1.1 in
-    let f3 = none_holds (ltb (size h) (length bytes)) Tail _ f2.1 in
+    let f3 = none_holds (ltb 0 (length (tail_bytes bytes))) Tail _ f2.1 in
     let more : ltb 0 (length left) ≡ false = rw at at f1.0 in
     let left_none : left ≡ [] = nil_from_length left (let k = ltb-false 0 (length left) more in omega arith) in
-    let le : length bytes ≤ size h = ltb-false _ _ f3.0 in
+    let le : length bytes ≤ size h = let k = ltb-false 0 (length (tail_bytes bytes)) f3.0 in omega (arith, length-drop (size h) bytes) in
     let there = r.there in
     let cut32 = length-drop 32 bytes in
     let part : names_part names ≡ names_bytes bytes = sym (t.parts ∙ rw left_none (append-nil (names_part names))) in
@@ -135,20 +134,3 @@ is_image bytes names left fits header_none at lawful end_none =
       };
       spelled = sym all;
     }
-
--- ---- the end
-
-ltb-sub : (a b : ℕ) → ltb 0 (b - a) ≡ ltb a b
-ltb-sub a b =
-    elim (cases_lt a b) [
-      | inl lt ↦ lt-ltb 0 (b - a) (omega arith) ∙ sym (lt-ltb a b lt)
-      | inr le ↦ le-ltb 0 (b - a) (omega arith) ∙ sym (le-ltb a b le)
-    ]
-
--- the tests of what stands after the names, by the parts that were split off
-pub end_by_parts : (bytes left padding tail : List ℕ) (names : List (List ℕ)) → names_at (header_of bytes).name_count (names_bytes bytes) ≡ Some (names, left) → padding ≡ padding_bytes bytes
-    → length tail ≡ length bytes - size (header_of bytes)
-    → first_fault (end_tests bytes) ≡ first_fault ((ltb 0 (length left), Field field.Names) ∷ (list_any (λ b. not (eqb b 0)) padding, Padding) ∷ (ltb 0 (length tail), Tail) ∷ [])
-end_by_parts bytes left padding tail names at pad len =
-    let more : has_more (names_bytes bytes) (header_of bytes).name_count ≡ ltb 0 (length left) = rw at refl in
-    rw (more, pad, len, ltb-sub (size (header_of bytes)) (length bytes)) refl

@@ -1,14 +1,14 @@
 -- What is read from the bytes of an image.
-use Rattle.std.proofs.Common.{◌≡◌, ℕ, zero, suc, ◌+◌, ◌-◌, ◌%◌, ◌^◌, ◌<◌, ◌≤◌, Bool, true, false, cond, ltb, eqb, not, List, [], ◌∷◌, ◌++◌, length, take, drop, replicate, codes, Option, Some, None, refl, sym, ap, subst, ◌∙◌, append_assoc, arith, IsTrue}
+use Rattle.std.proofs.Common.{◌≡◌, ℕ, zero, suc, ◌+◌, ◌-◌, ◌^◌, ◌<◌, ◌≤◌, true, false, eqb, not, List, [], ◌++◌, length, take, drop, replicate, codes, Option, Some, None, refl, sym, ap, subst, ◌∙◌, append_assoc, arith, IsTrue}
 use Rattle.std.specs.List.{list_any, starts_with}
 use Rattle.std.specs.Option.{unwrap_or, ForSome}
-use Rattle.std.proofs.lemmas.Bool.{le-ltb, ne_eqb}
-use Rattle.std.proofs.lemmas.List.{append-nil, take_all, take_at, drop_at, drop-drop, length-append, length-replicate}
+use Rattle.std.proofs.lemmas.Bool.{ne_eqb}
+use Rattle.std.proofs.lemmas.List.{append-nil, take_all, take_at, drop_all, drop_at, drop-drop, length-append, length-replicate}
 use Rattle.riscv_isa.specs.Image.{IsLawfulImage, ImageOf, layout, names_part, are_foreign_names}
-use Rattle.image_file.specs.declared.header.Header.{Header}
-use Rattle.image_file.specs.Faults.{first_fault, header_tests, name_tests, end_tests, has_more, fault_of}
-use Rattle.image_file.specs.Fields.{header, header_of, padding, size, names_bytes, padding_bytes, code_bytes, bound_in, names_at}
-use Rattle.image_file.proofs.FaultLaws.{at_end}
+use Rattle.image_file.specs.Faults.{first_fault, name_tests, fault_of}
+use Rattle.image_file.specs.Fields.{header_of, padding, size, names_bytes, padding_bytes, code_bytes, tail_bytes, names_at, left_after}
+use Rattle.image_file.specs.Split.{header, bound_in}
+use Rattle.image_file.proofs.FaultLaws.{at_end, tests_of_end}
 use Rattle.image_file.proofs.HeaderLaws.{fields, header_of-header}
 use Rattle.image_file.proofs.ImageLaws.{IsRight, right_header}
 use Rattle.image_file.proofs.NameLaws.{names_again, some_is}
@@ -67,11 +67,11 @@ reads_layout bytes code names bound l spelled =
     let magic : starts_with eqb (codes "PNK1") (take 4 bytes) ≡ true = ap (λ (bs : List ℕ). starts_with eqb (codes "PNK1") (take 4 bs)) front in
     let there : size (fields (length code) (length names) word n) ≤ length bytes = omega arith in
     let right : IsRight bytes (header_of bytes) = subst (IsRight bytes) (sym says) (record { magic = magic; long = omega arith; whole = l.whole; most = l.most; entry = refl; count = l.count; names = l.part; zero = refl; there = there }) in
-    let no_more : has_more (names_bytes bytes) (header_of bytes).name_count ≡ false = rw names_are refl in
+    let no_left : left_after (header_of bytes).name_count (names_bytes bytes) ≡ [] = rw names_are refl in
     let no_other : list_any (λ b. not (eqb b 0)) (padding_bytes bytes) ≡ false = rw pad_is (none_other (padding n)) in
     let within : length bytes ≤ size (header_of bytes) = rw says (omega arith) in
-    let no_tail : ltb (size (header_of bytes)) (length bytes) ≡ false = le-ltb _ _ within in
-    let end : first_fault (end_tests bytes) ≡ None = rw (no_more, no_other, no_tail) refl in
+    let no_tail : tail_bytes bytes ≡ [] = drop_all (size (header_of bytes)) bytes within in
+    let end : first_fault (tests_of_end bytes) ≡ None = rw (no_left, no_other, no_tail) refl in
     record {
       code_is = rw (says, behind_padding) (take_all (length code) code (omega arith));
       names_are = names_are;

@@ -3,12 +3,11 @@ use Rattle.std.specs.Prelude.{ℕ, zero, suc, ◌+◌, ◌%◌, ◌==◌, ◌&&�
 use Rattle.std.specs.List.{list_any, starts_with}
 use Rattle.std.specs.Option.{option_map_or}
 use Rattle.riscv_isa.specs.Image.{are_foreign_names}
-use Rattle.image_file.specs.declared.error.FieldName.{FieldName}
 use Rattle.image_file.specs.declared.error.FieldName.TheVariants as field
 use Rattle.image_file.specs.declared.error.ImageError.{ImageError}
 use Rattle.image_file.specs.declared.error.ImageError.TheVariants.{Magic, Short, Field, BadName, Padding, Tail}
 use Rattle.image_file.specs.declared.header.Header.{Header}
-use Rattle.image_file.specs.Fields.{header_of, size, names_bytes, padding_bytes, names_at}
+use Rattle.image_file.specs.Fields.{header_of, size, names_bytes, padding_bytes, tail_bytes, names_at, left_after}
 
 -- the fault of the first test that holds
 abbrev pub first_fault : List (Bool × ImageError) → Option ImageError
@@ -42,22 +41,19 @@ abbrev pub name_tests : List ℕ → ℕ → ℕ → List (Bool × ImageError)
 name_tests part i zero = []
 name_tests part i (suc k) = (is_bad_name part i, BadName i) ∷ name_tests part (i + 1) k
 
--- bytes are left in the part after so many names
-abbrev pub has_more : List ℕ → ℕ → Bool
-has_more part count = option_map_or (λ r. nat_lt 0 (length r.1)) (names_at count part) false
-
--- the tests of what stands after the names
-abbrev pub end_tests : List ℕ → List (Bool × ImageError)
-end_tests bytes =
-    (has_more (names_bytes bytes) (header_of bytes).name_count, Field field.Names)
-    ∷ (list_any (λ b. not (b == 0)) (padding_bytes bytes), Padding)
-    ∷ (nat_lt (size (header_of bytes)) (length bytes), Tail)
+-- the tests of the bytes that are left of the names part, of the padding, and of the bytes after the code
+abbrev pub end_tests : List ℕ → List ℕ → List ℕ → List (Bool × ImageError)
+end_tests left padding tail =
+    (nat_lt 0 (length left), Field field.Names)
+    ∷ (list_any (λ b. not (b == 0)) padding, Padding)
+    ∷ (nat_lt 0 (length tail), Tail)
     ∷ []
 
 -- All tests, in the order in which they count.
 abbrev pub tests : List ℕ → List (Bool × ImageError)
 tests bytes =
-    header_tests bytes ++ name_tests (names_bytes bytes) 0 (header_of bytes).name_count ++ end_tests bytes
+    header_tests bytes ++ name_tests (names_bytes bytes) 0 (header_of bytes).name_count
+    ++ end_tests (left_after (header_of bytes).name_count (names_bytes bytes)) (padding_bytes bytes) (tail_bytes bytes)
 
 -- what is wrong with the bytes, if anything is
 unfoldable pub fault_of : List ℕ → Option ImageError

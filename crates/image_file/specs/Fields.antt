@@ -1,14 +1,8 @@
 -- Where the parts of an image stand.
-use Rattle.std.specs.Prelude.{◌≡◌, ℕ, zero, suc, ◌+◌, ◌-◌, ◌%◌, ◌^◌, ◌==◌, nat_lt, if◌then◌else◌, List, [], ◌∷◌, ◌++◌, length, take, drop, codes, Option, Some, None}
-use Rattle.std.specs.Int.{w32, w64, to_le_bytes}
-use Rattle.std.specs.Option.{option_map, option_and_then}
+use Rattle.std.specs.Prelude.{ℕ, zero, suc, ◌+◌, ◌-◌, ◌%◌, nat_lt, if◌then◌else◌, List, [], ◌∷◌, ◌++◌, length, take, drop, Option, Some, None}
+use Rattle.std.specs.Option.{option_map, option_and_then, option_map_or}
 use Rattle.byteorder.specs.Endian.{little_number}
 use Rattle.image_file.specs.declared.header.Header.{Header}
-
--- the first 32 bytes
-abbrev pub header : ℕ → ℕ → ℕ → ℕ → List ℕ
-header code count bound names =
-    codes "PNK1" ++ to_le_bytes w32 code ++ to_le_bytes w32 0 ++ to_le_bytes w32 count ++ to_le_bytes w64 bound ++ to_le_bytes w32 names ++ to_le_bytes w32 0
 
 -- what the fields of the first 32 bytes say
 unfoldable pub header_of : List ℕ → Header
@@ -37,21 +31,13 @@ abbrev pub padding_bytes : List ℕ → List ℕ
 padding_bytes bytes =
     take (padding (header_of bytes).names_len) (drop (32 + (header_of bytes).names_len) bytes)
 
--- the code
+-- the code, and what comes after it
 abbrev pub code_bytes : List ℕ → List ℕ
 code_bytes bytes =
     take (header_of bytes).code_len (drop (32 + (header_of bytes).names_len + padding (header_of bytes).names_len) bytes)
 
--- what stands behind the header: the names part, the bytes that fill it up, the code, and what is left
-pub record AreParts (bytes names padding code tail : List ℕ) : Type 0 where
-  pub names_are : names ≡ names_bytes bytes
-  pub padding_is : padding ≡ padding_bytes bytes
-  pub code_is : code ≡ code_bytes bytes
-  pub tail_len : length tail ≡ length bytes - size (header_of bytes)
-
--- the bound that a word stands for
-abbrev pub bound_in : ℕ → Option ℕ
-bound_in word = if word == 2 ^ 64 - 1 then None else Some word
+abbrev pub tail_bytes : List ℕ → List ℕ
+tail_bytes bytes = drop (size (header_of bytes)) bytes
 
 -- The name at the front of a names part and the bytes after it, if neither its length nor its bytes run past the end.
 unfoldable pub front_name : List ℕ → Option (List ℕ × List ℕ)
@@ -62,3 +48,7 @@ front_name part =
 unfoldable pub names_at : ℕ → List ℕ → Option (List (List ℕ) × List ℕ)
 names_at zero part = Some ([], part)
 names_at (suc k) part = option_and_then (λ r. option_map (λ n. (r.0 ++ n.0 ∷ [], n.1)) (front_name r.1)) (names_at k part)
+
+-- the bytes that are left in a names part after so many names
+abbrev pub left_after : ℕ → List ℕ → List ℕ
+left_after count part = option_map_or (λ r. r.1) (names_at count part) []

@@ -7,6 +7,8 @@ mod image;
 mod laws;
 mod names;
 mod reading;
+#[cfg(test)]
+mod tests;
 mod writing;
 
 pub use error::{FieldName, ImageError};

@@ -1,10 +1,11 @@
 //! Reads images.
 
-ghost use Rattle.std.specs.Prelude.{◌≡◌, ◌≢◌, ◌⊎◌, ◌-◌, ◌≤◌, ◌==◌, not, ℕ, List, [], ◌∷◌, Option, None, Some, Ok, Err, IfOk, IfErr, OnOk, length, nat_lt};
+ghost use Rattle.std.specs.Prelude.{◌≡◌, ◌≢◌, ◌⊎◌, ◌-◌, ◌≤◌, ◌==◌, not, ℕ, List, Option, None, Some, Ok, Err, IfOk, IfErr, OnOk, length};
 ghost use Rattle.std.specs.List.{list_any};
 ghost use Rattle.riscv_isa.specs.Image.{ImageOf};
-ghost use Rattle.image_file.specs.Faults.{first_fault, fault_of};
-ghost use Rattle.image_file.specs.Fields.{header_of, size, AreParts, bound_in};
+ghost use Rattle.image_file.specs.Faults.{first_fault, end_tests, fault_of};
+ghost use Rattle.image_file.specs.Fields.{header_of, size};
+ghost use Rattle.image_file.specs.Split.{AreParts, bound_in};
 
 use crate::error::{FieldName, ImageError};
 use crate::header::{Header, padding_of, read_header};
@@ -48,11 +49,7 @@ fn has_other_than_zero(padding: &[u8]) -> bool
 
 /// What is wrong with the bytes that are left of the names part, with the padding, or with the bytes after the code.
 fn wrong_end(left: &[u8], padding: &[u8], tail: &[u8]) -> Option<ImageError>
-    ensures { result ≡ first_fault (
-        (nat_lt 0 (length left.now), ImageError.Field FieldName.Names)
-        ∷ (list_any (λ b. not (b == 0)) padding.now, ImageError.Padding)
-        ∷ (nat_lt 0 (length tail.now), ImageError.Tail)
-        ∷ []) }
+    ensures { result ≡ first_fault (end_tests left.now padding.now tail.now) }
 {
     if !left.is_empty() {
         Some(ImageError::Field(FieldName::Names))

@@ -3,7 +3,8 @@
 ghost use Rattle.std.specs.Prelude.{◌≡◌, ◌≤◌, ◌<◌, ◌^◌, ◌+◌, ◌-◌, ◌%◌, [], ◌∷◌, ◌++◌, length, replicate, IfOk, OnOk, All};
 ghost use Rattle.std.specs.Option.{unwrap_or};
 ghost use Rattle.riscv_isa.specs.Image.{IsLawfulImage, ImageOf, names_part};
-ghost use Rattle.image_file.specs.Fields.{header, padding};
+ghost use Rattle.image_file.specs.Fields.{padding};
+ghost use Rattle.image_file.specs.Split.{header};
 
 use crate::header::padding_of;
 use byteorder::{ByteOrder, LittleEndian};

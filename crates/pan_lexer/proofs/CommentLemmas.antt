@@ -1,12 +1,12 @@
 -- White space and comments.
-use Rattle.std.proofs.Common.{◌≡◌, ℕ, ◌+◌, ◌-◌, ◌<◌, ◌≤◌, Bool, true, false, not, ◌&&◌, ◌||◌, cond, eqb, List, [], ◌∷◌, ◌++◌, drop, codes, length, Option, Some, None, sym, ap, ◌∙◌, subst, refl, arith, length-append}
-use Rattle.std.specs.List.{list_all, prefix_len, take_while}
+use Rattle.std.proofs.Common.{◌≡◌, ℕ, ◌≤◌, Bool, true, false, not, ◌&&◌, ◌||◌, eqb, List, [], ◌∷◌, ◌++◌, drop, codes, length, Some, None, sym, ap, ◌∙◌, subst, refl, arith}
+use Rattle.std.specs.List.{prefix_len, take_while}
 use Rattle.std.proofs.lemmas.Bool.Decides.{Decides-eqb}
 use Rattle.pan_base.specs.Lexing.{IsGap, WhiteSpace, LineComment, BlockComment, ends_line, has_close}
 use Rattle.pan_base.specs.Spelling.{is_space}
 use Rattle.pan_lexer.specs.Pieces.{is_in_line, after_close, after_comment, after_gap}
 use Rattle.pan_lexer.proofs.TestLemmas.{both_true, if_some, no_some}
-use Rattle.pan_lexer.proofs.WordLemmas.{stops, front_split, front_passes, front_stops, front_length, after_front}
+use Rattle.pan_lexer.proofs.WordLemmas.{stops, front_split, front_passes, front_stops, after_front}
 
 -- in one byte no comment ends
 pub short_no_close : (bytes : List ℕ) → length bytes ≤ 1 → after_close bytes ≡ None

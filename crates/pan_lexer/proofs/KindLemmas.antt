@@ -1,17 +1,16 @@
 -- What words are.
-use Rattle.std.proofs.Common.{◌≡◌, ℕ, Bool, true, false, not, ◌&&◌, cond, List, [], ◌∷◌, ◌++◌, drop, take, codes, Option, Some, None, option_map, sym, ap, ◌∙◌, subst, refl}
-use Rattle.std.specs.List.{list_all, list_any}
+use Rattle.std.proofs.Common.{◌≡◌, ℕ, true, false, not, List, [], ◌∷◌, ◌++◌, drop, take, codes, Some, None, sym, ap, ◌∙◌, subst, refl}
 use Rattle.std.specs.Str.{bytes_eq}
 use Rattle.std.proofs.lemmas.List.{take-append-drop}
 use Rattle.std.proofs.lemmas.Slice.Eq.{bytes_eq-Decides}
-use Rattle.pan_base.specs.Names.{is_letter, is_word_byte, is_spelled}
+use Rattle.pan_base.specs.Names.{is_spelled}
 use Rattle.pan_base.specs.Tokens.{Kind, Name, Reserved, Load, Store, Foreign, Base, Biw, Spells, keyword_text, keywords, is_reserved, bits_text}
 use Rattle.pan_base.specs.declared.events.Size.{Size}
 use Rattle.pan_base.specs.declared.events.Size.TheVariants.{B1, B2, B4, B8}
 use Rattle.pan_base.specs.declared.tokens.Keyword.{Keyword}
 use Rattle.pan_base.specs.declared.tokens.Keyword.TheVariants as keyword
 use Rattle.pan_lexer.specs.Pieces.{keyword_of, named, size_of, access_of, begins_letter, foreign_of}
-use Rattle.pan_lexer.proofs.TestLemmas.{not_true, both_true, if_some, mapped_some, no_some, none_or_some, found_passes, none_passes, none_found}
+use Rattle.pan_lexer.proofs.TestLemmas.{not_true, if_some, mapped_some, no_some, none_or_some, found_passes, none_passes, none_found}
 
 -- ---- reserved words and names
 

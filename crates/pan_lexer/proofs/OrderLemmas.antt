@@ -1,5 +1,5 @@
 -- Tokens that stand in order.
-use Rattle.std.proofs.Common.{ℕ, zero, suc, ◌+◌, ◌<◌, ◌≤◌, List, [], ◌∷◌, length, get_or, arith}
+use Rattle.std.proofs.Common.{ℕ, zero, suc, ◌<◌, ◌≤◌, List, [], ◌∷◌, length, get_or, arith}
 use Rattle.std.specs.Prelude.{map}
 use Rattle.pan_base.specs.Tokens.{Placed, placed}
 use Rattle.pan_base.specs.declared.tokens.Token.{Token}

@@ -1,9 +1,9 @@
 -- What a text begins with is what `piece_of` gives.
-use Rattle.std.proofs.Common.{◌≡◌, ℕ, ◌+◌, ◌<◌, Bool, true, false, ◌||◌, eqb, ◌==◌, List, [], ◌∷◌, ◌++◌, codes, length, Option, Some, None, option_map, sym, ap, ◌∙◌, subst, refl, arith, length-append}
+use Rattle.std.proofs.Common.{◌≡◌, ℕ, ◌<◌, Bool, true, false, ◌||◌, eqb, ◌==◌, List, [], ◌∷◌, length, Option, Some, None, option_map, sym, ap, ◌∙◌, subst, refl, arith, length-append}
 use Rattle.std.proofs.lemmas.Bool.Decides.{Decides-eqb}
 use Rattle.pan_base.specs.Lexing.{IsGap, WhiteSpace, LineComment, BlockComment}
 use Rattle.pan_base.specs.Spelling.{is_space}
-use Rattle.pan_base.specs.Tokens.{Kind, Name, Reserved, Number, Load, Store, Foreign, Base, Biw, ASign, Spells, keyword_text, sign_text}
+use Rattle.pan_base.specs.Tokens.{Kind, Name, Reserved, Number, Load, Store, Foreign, Base, Biw, ASign, Spells}
 use Rattle.pan_base.specs.Names.{is_spelled}
 use Rattle.pan_lexer.specs.Pieces.{sign_of, sign_token, token_of, after_gap, or_else, piece_of}
 use Rattle.pan_lexer.proofs.TestLemmas.{different, if_some, mapped_some, no_some, none_or_some}

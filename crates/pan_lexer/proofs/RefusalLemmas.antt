@@ -1,7 +1,7 @@
 -- A text that is stuck has one reason.
-use Rattle.std.proofs.Common.{◌≡◌, ◌≢◌, ℕ, ◌+◌, ◌-◌, ◌<◌, ◌≤◌, Bool, true, false, not, ◌&&◌, cond, eqb, List, [], ◌∷◌, length, Result, Ok, Err, sym, ap, ◌∙◌, subst, refl, inl, inr, arith}
-use Rattle.std.specs.Prelude.{◌⊎◌, MatchResult}
-use Rattle.std.proofs.lemmas.Bool.Decides.{nat_tests, Decides-eqb}
+use Rattle.std.proofs.Common.{◌≡◌, ℕ, ◌+◌, ◌≤◌, Bool, true, false, not, cond, eqb, List, [], ◌∷◌, length, Result, Err, sym, ap, ◌∙◌, subst, refl, inl, inr, arith}
+use Rattle.std.specs.Prelude.{◌⊎◌}
+use Rattle.std.proofs.lemmas.Bool.Decides.{Decides-eqb}
 use Rattle.pan_base.specs.Lexing.{Lexes, IsStuckAt, begins_number, begins_block}
 use Rattle.pan_base.specs.Names.{is_digit}
 use Rattle.pan_base.specs.Tokens.{Placed}
@@ -10,7 +10,7 @@ use Rattle.pan_lexer.specs.TokenRow.{IsLawful, IsInOrder, source_limit}
 use Rattle.pan_lexer.specs.declared.error.LexError.{LexError}
 use Rattle.pan_lexer.specs.declared.error.LexError.TheVariants.{TooLong, BadByte, BadNumber, OpenComment, NoMemory}
 use Rattle.pan_lexer.proofs.TestLemmas.{not_true, both_true}
-use Rattle.pan_lexer.proofs.RowLemmas.{one_row, one_stuck_place, no_row_where_stuck, row_in_order}
+use Rattle.pan_lexer.proofs.RowLemmas.{one_stuck_place, no_row_where_stuck, row_in_order}
 
 -- ---- and it's the only one
 

@@ -10,8 +10,6 @@ use Rattle.pan_lexer.specs.Pieces.{piece_of, after_gap, token_of}
 use Rattle.pan_lexer.specs.Laws.{OneRow, NoRowWhereStuck, OneStuckPlace, RowOrStuck}
 use Rattle.pan_lexer.specs.TokenRow.{IsInOrder}
 use Rattle.pan_lexer.proofs.TestLemmas.{different, none_or_some}
-use Rattle.pan_lexer.proofs.TokenLemmas.{TokenAt}
-use Rattle.pan_lexer.proofs.CommentLemmas.{GapAt}
 use Rattle.pan_lexer.proofs.PieceLemmas.{PieceAt, piece_found, piece_given, piece_shorter, token_length}
 
 -- the place of what stands before this text

@@ -1,9 +1,9 @@
 -- The longest sign that a text begins with.
-use Rattle.std.proofs.Common.{◌≡◌, ℕ, ◌≤◌, Bool, true, false, not, ◌&&◌, ◌||◌, cond, leb, List, [], ◌∷◌, ◌++◌, drop, take, get_or, length, Option, Some, None, sym, ap, ◌∙◌, subst, refl, arith, length-append}
+use Rattle.std.proofs.Common.{◌≡◌, ℕ, ◌≤◌, Bool, true, false, not, ◌&&◌, ◌||◌, leb, List, [], ◌∷◌, ◌++◌, drop, take, get_or, length, Option, Some, None, sym, ap, ◌∙◌, subst, refl, arith, length-append}
 use Rattle.std.specs.Prelude.{nat_eq, IfSome}
-use Rattle.std.specs.List.{find, list_all, list_any, starts_with}
+use Rattle.std.specs.List.{find, list_all, starts_with}
 use Rattle.std.specs.Str.{bytes_eq}
-use Rattle.std.proofs.Math.Seq.{take-append_seam, drop-append_seam}
+use Rattle.std.proofs.Math.Seq.{take-append_seam}
 use Rattle.std.proofs.lemmas.List.{take-append-drop}
 use Rattle.std.proofs.lemmas.Slice.Eq.{bytes_eq-Decides}
 use Rattle.std.proofs.lemmas.Bool.Decides.{nat_tests}
@@ -11,7 +11,7 @@ use Rattle.pan_base.specs.Tokens.{sign_text, signs, is_longest_sign}
 use Rattle.pan_base.specs.declared.tokens.Sign.{Sign}
 use Rattle.pan_base.specs.declared.tokens.Sign.TheVariants as sign
 use Rattle.pan_lexer.specs.Pieces.{longest_first, sign_of}
-use Rattle.pan_lexer.proofs.TestLemmas.{both_true, no_some, none_or_some, found_passes, found_among, each_fails, all_pass, if_some}
+use Rattle.pan_lexer.proofs.TestLemmas.{both_true, none_or_some, found_passes, found_among, each_fails, all_pass, if_some}
 
 -- three bytes tell the sign
 pub sign_by_three : (bytes : List ℕ) → sign_of (get_or bytes 0 0 ∷ get_or bytes 1 0 ∷ get_or bytes 2 0 ∷ []) ≡ sign_of bytes

@@ -83,9 +83,9 @@ fn scan(alloc: Global, bytes: &[u8]) -> Result<List<Token<'_>>, LexError>
 ///
 /// # Errors
 ///
-/// `TooLong` for more than 1,048,576 bytes. Otherwise the first place at which neither white space nor a comment nor a token begins:
-/// `BadNumber` where a digit stands there, `OpenComment` where a comment begins there, and else `BadByte`. `NoMemory` may come
-/// in place of any answer but `TooLong`.
+/// `TooLong` for more than 1,048,576 bytes. Otherwise the first place at which neither white space nor a comment nor a
+/// token begins: `BadNumber` where a digit stands there, `OpenComment` where a comment begins there, and else `BadByte`.
+/// `NoMemory` may come in place of any answer but `TooLong`.
 pub fn lex(alloc: Global, bytes: &[u8]) -> Result<Tokens<'_>, LexError>
     ensures tokens { IfOk result (λ t. Lexes bytes.now t.tokens) }
     ensures source { IfOk result (λ t. t.source_len ≡ length bytes.now) }

@@ -1,6 +1,6 @@
 //! What no contract says: sources with their tokens from outside, and that calls succeed.
 
-use crate::{LexError, MAX_SOURCE_LEN, Tokens, lex};
+use crate::{LexError, MAX_SOURCE_LEN, lex};
 use pan_base::{Token, TokenKind};
 use std::alloc::{AllocError, Global};
 use std::test::Fail;

@@ -1,5 +1,5 @@
 -- A run so far, and how it goes on and ends.
-use Rattle.std.proofs.Common.{◌≡◌, ℕ, ◌+◌, ◌-◌, ◌≤◌, List, [], ◌∷◌, ◌++◌, length, Option, Some, None, refl, sym, ap, ◌∙◌, subst, arith, append_assoc, length-append, zero-add, inl, inr}
+use Rattle.std.proofs.Common.{◌≡◌, ℕ, ◌+◌, ◌-◌, ◌≤◌, List, [], ◌∷◌, ◌++◌, length, Option, Some, None, refl, sym, ap, ◌∙◌, subst, arith, false, append_assoc, length-append, zero-add, inl, inr}
 use Rattle.std.specs.Prelude.{IsSome, ◌⊎◌}
 use Rattle.std.proofs.lemmas.List.{append-nil}
 use Rattle.std.proofs.lemmas.List.Concat.{flat_map-append}
@@ -25,6 +25,7 @@ pub record SoFar {D : Type 0} (gives : Gives D) (a a' : Meaning) (d d' : D) (was
   pub did : Did gives a a' d d' was now used events
   pub feeds : feeds (trace_text events) ≡ length events
   pub same : a'.ended ≡ a.ended
+  pub fed : a'.starved ≡ a.starved
   pub idle : IsSome a.ended → (events ≡ []) × (d' ≡ d)
 
 no_some : (o : Option Ending) → o ≡ None → IsSome o → ⊥
@@ -57,6 +58,7 @@ module _ {D : Type 0} (gives : Gives D) where
     did = record { goes = λ replies k. rw zero-add refl; answered = refl; took = Took-none was };
     feeds = refl;
     same = refl;
+    fed = refl;
     idle = λ _. (refl, refl);
   }
 
@@ -78,6 +80,9 @@ module _ {D : Type 0} (gives : Gives D) where
   module _ (a a' a'' : Meaning) (d d' : D) (was now : SinkState) (budget left : ℕ) (step : Advance) (s : SoFar gives a a' d d' was now budget left) (m : Advances a' a'' left step) where
     spent_steps : s.used + step.used + (left - step.used) ≡ budget
     spent_steps = omega (arith, m.within, s.steps)
+
+    was_fed : a.starved ≡ false
+    was_fed = sym s.fed ∙ m.fed.0
 
     -- after an advance
     moved : Did gives a a'' d d' was now (s.used + step.used) s.events
@@ -104,6 +109,7 @@ module _ {D : Type 0} (gives : Gives D) where
           };
           feeds = rw (text-push s.events e, feeds-append (trace_text s.events) (event_line q gained.reply), line_feed q gained.reply gained.fits gained.one_line, length-append s.events (e ∷ []), s.feeds) refl;
           same = gained.takes.runs.1 ∙ sym running ∙ s.same;
+          fed = gained.fed ∙ m.fed.1 ∙ sym was_fed;
           idle = λ some. absurd (no_some a.ended (sym s.same ∙ running) some);
         }
 
@@ -128,10 +134,11 @@ module _ {D : Type 0} (gives : Gives D) where
           let run = ap (a.go (replies_of s.events ++ u.reply ∷ [])) (sym spent_steps) ∙ moved.goes (u.reply ∷ []) (left - step.used) ∙ ap (after s.events) next.1 in
           TookFront-on was now now' (trace_text s.events) (event_line q u.reply) (trace_text next.0.events) _ s.did.took u.front (ap (λ o. trace_text o.events) run ∙ text-front s.events (e ∷ next.0.events));
       fault = omega (arith, u.fault, later);
+      fed = (was_fed, rw u.same m.fed.1);
     }
 
     -- the run, where no reply comes, or one more
-    module _ (stops silences : D → ℕ) (b : Meaning) (new : D) (last : List Replied) (x : Ending) (end : End) (next : (more : List Replied) (k : ℕ) → a''.go (last ++ more) k ≡ b.go more k) (ends_so : b.go [] (left - step.used) ≡ only x) (is : end_of x ≡ end) where
+    module _ (stops silences : D → ℕ) (b : Meaning) (new : D) (last : List Replied) (x : Ending) (end : End) (next : (more : List Replied) (k : ℕ) → a''.go (last ++ more) k ≡ b.go more k) (ends_so : b.go [] (left - step.used) ≡ only x) (is : end_of x ≡ end) (b_fed : b.starved ≡ false) where
       abbrev all_replies : List Replied
       all_replies = replies_of s.events ++ last
 
@@ -163,6 +170,7 @@ module _ {D : Type 0} (gives : Gives D) where
         idle = λ some. let i = s.idle some in let j = idle some in (rw (i.0, j.0) refl, j.1 ∙ i.1);
         asks = asks;
         stopped = λ e. rw run-ending (stopped e);
+        fed = (was_fed, b_fed);
         used = s.used + step.used;
         within = omega (arith, spent_steps);
         resumes = λ more k. rw run-events (resumes more k);
@@ -172,7 +180,7 @@ module _ {D : Type 0} (gives : Gives D) where
     pub spent : (stops silences : D → ℕ) → step.used ≡ left → ((replies : List Replied) → a''.go replies 0 ≡ only Spent) → Drove gives stops silences a a'' d d' was now budget told_end.Spent
     spent stops silences used law =
         let none : left - step.used ≡ 0 = omega (arith, used) in
-        finish stops silences a'' d' [] Spent told_end.Spent (λ more k. refl) (ap (a''.go []) none ∙ law []) refl (λ _. (refl, refl)) (λ _. (refl, refl)) (λ e. absurd (cc)) (λ e. absurd (cc))
+        finish stops silences a'' d' [] Spent told_end.Spent (λ more k. refl) (ap (a''.go []) none ∙ law []) refl m.fed.1 (λ _. (refl, refl)) (λ _. (refl, refl)) (λ e. absurd (cc)) (λ e. absurd (cc))
 
     closes_over : (x : Ending) → IsOver x → ((q : Asked) → x ≡ Stopped q → ⊥) → Closes gives d' x [] d'
     closes_over (Exit n) over not = (refl, refl)
@@ -207,7 +215,7 @@ module _ {D : Type 0} (gives : Gives D) where
     -- it has ended
     pub over : (stops silences : D → ℕ) (x : Ending) (end : End) → HasEnded a'' x → end_of x ≡ end → ((q : Asked) → x ≡ Stopped q → a'.ended ≡ Some x) → Drove gives stops silences a a'' d d' was now budget end
     over stops silences x end h is before_it =
-        finish stops silences a'' d' [] x end (λ more k. refl) (h.goes [] (left - step.used)) is
+        finish stops silences a'' d' [] x end (λ more k. refl) (h.goes [] (left - step.used)) is m.fed.1
         (λ none. closes_over x h.over (λ q e. let f = before_it q e in let g = sym s.same ∙ f in let h = sym none ∙ g in cc))
         (λ _. (refl, refl))
         (λ e. absurd (not_asks x end is h.over e))
@@ -216,7 +224,7 @@ module _ {D : Type 0} (gives : Gives D) where
     -- the device stopped it
     pub gave_up : (stops silences : D → ℕ) (b : Meaning) (d'' : D) (now' : SinkState) (q : Asked) → a'.ended ≡ None → stops d ≤ stops d' → GaveUp gives stops a'' b d' d'' now now' q → Drove gives stops silences a b d d'' was now' budget told_end.Stopped
     gave_up stops silences b d'' now' q running later g =
-        rw g.put (finish stops silences b d'' (g.reply ∷ []) (Stopped q) told_end.Stopped (λ more k. g.ends.goes more k ∙ sym (g.ends.over.goes more k)) (g.ends.over.goes [] (left - step.used)) refl
+        rw g.put (finish stops silences b d'' (g.reply ∷ []) (Stopped q) told_end.Stopped (λ more k. g.ends.goes more k ∙ sym (g.ends.over.goes more k)) (g.ends.over.goes [] (left - step.used)) refl (g.fed ∙ m.fed.1)
         (λ _. (g.reply, refl, g.unfit, g.given))
         (λ some. absurd (no_some a.ended (sym s.same ∙ running) some))
         (λ e. absurd (cc))
@@ -225,7 +233,7 @@ module _ {D : Type 0} (gives : Gives D) where
     -- the device is silent
     pub silent : (stops silences : D → ℕ) (b : Meaning) (d'' : D) (now' : SinkState) (q : Asked) → IsAsking a'' q → a'.ended ≡ None → silences d ≤ silences d' → WasSilent gives silences a'' b d' d'' now now' q → Drove gives stops silences a b d d'' was now' budget told_end.Asks
     silent stops silences b d'' now' q asking running later w =
-        rw (w.put, w.same) (finish stops silences a'' d'' [] (Asks q) told_end.Asks (λ more k. refl) (asking.silent (left - step.used)) refl
+        rw (w.put, w.same) (finish stops silences a'' d'' [] (Asks q) told_end.Asks (λ more k. refl) (asking.silent (left - step.used)) refl m.fed.1
         (λ _. (refl, w.given))
         (λ some. absurd (no_some a.ended (sym s.same ∙ running) some))
         (λ _. omega (arith, w.silence))

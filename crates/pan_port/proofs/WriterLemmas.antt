@@ -1,14 +1,13 @@
 -- Each advance of a writer.
-use Rattle.std.proofs.Common.{◌≡◌, ◌≢◌, ℕ, ◌+◌, ◌-◌, ◌≤◌, zero, suc, refl, arith, one-add, zero-add, List, [], ◌∷◌, Some, None, inl, inr}
+use Rattle.std.proofs.Common.{◌≡◌, ◌≢◌, ℕ, ◌-◌, zero, suc, refl, arith, one-add, zero-add, List, ◌∷◌, inl, inr}
 use Rattle.std.specs.Prelude.{◌⊎◌, IsSome}
 use Rattle.std.proofs.lemmas.Bool.{false≢true}
-use Rattle.pan_base.specs.Events.{Replied, Value, Done, Bytes, Stop, Fits, Exit, Stopped, Ending, before, end_of}
+use Rattle.pan_base.specs.Events.{Replied, Value, Done, Bytes, Stop, Fits, Exit, before, end_of}
 use Rattle.pan_base.specs.declared.events.End.{End}
 use Rattle.pan_base.specs.declared.events.End.TheVariants as told_end
 use Rattle.pan_port.specs.declared.asker.Pause.{Pause}
 use Rattle.pan_port.specs.declared.asker.Pause.TheVariants as pause
-use Rattle.pan_port.specs.declared.asker.Advance.{Advance}
-use Rattle.pan_port.specs.Asker.{Advances, IsAsking, HasEnded, IsOver}
+use Rattle.pan_port.specs.Asker.{Advances, IsAsking, IsOver}
 use Rattle.pan_port.specs.Writer.{writer, store_of, asking, running, ending}
 
 takes : (n : ℕ) (r : Replied) (replies : List Replied) (k : ℕ) → Fits (store_of n) r → (writer pause.Asks n).go (r ∷ replies) k ≡ before (store_of n) r (running k (n - 1) replies)

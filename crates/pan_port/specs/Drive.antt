@@ -69,6 +69,8 @@ pub record Drove {D : Type 0} (gives : Gives D) (stops silences : D → ℕ) (a 
   -- no run asks or stops by itself
   pub asks : end ≡ told_end.Asks → Rose (silences old) (silences new)
   pub stopped : end ≡ told_end.Stopped → ((q : Asked) × (a.ended ≡ Some (Stopped q))) ⊎ StoppedBy (stops old) (stops new) (a.go replies budget).ending replies
+  -- it never wanted memory that wasn't there
+  pub fed : (a.starved ≡ false) × (a'.starved ≡ false)
   -- with more replies and steps it would go on as what is left of the asker
   pub used : ℕ
   pub within : used ≤ budget
@@ -96,6 +98,7 @@ pub record Unwritten {D : Type 0} (gives : Gives D) (a a' : Meaning) (old new : 
   pub front : TookFront put now (event_line request reply)
   pub prefix : TookFront was now (trace_text (a.go (replies_of events ++ reply ∷ []) budget).events)
   pub fault : Rose was.faults now.faults
+  pub fed : (a.starved ≡ false) × (a'.starved ≡ false)
 
 -- The asker found no memory after these events, and their lines are put.
 pub record Hungry {D : Type 0} (gives : Gives D) (a a' : Meaning) (old new : D) (was now : SinkState) (budget : ℕ) : Type 0 where
@@ -126,6 +129,7 @@ pub record Gained {D : Type 0} (gives : Gives D) (a a' : Meaning) (d d' : D) (wa
   pub one_line : IsOneLine q
   pub took : Took was now (event_line q reply)
   pub takes : Takes a a' q reply
+  pub fed : a'.starved ≡ a.starved
 
 -- the device's reply doesn't fit, and ends the asker
 pub record GaveUp {D : Type 0} (gives : Gives D) (stops : D → ℕ) (a a' : Meaning) (d d' : D) (was now : SinkState) (q : Asked) : Type 0 where
@@ -134,6 +138,7 @@ pub record GaveUp {D : Type 0} (gives : Gives D) (stops : D → ℕ) (a a' : Mea
   pub given : gives d q (Gave reply) d'
   pub put : now ≡ was
   pub ends : Ends a a' q reply
+  pub fed : a'.starved ≡ a.starved
   pub stop : reply ≡ Stop → Rose (stops d) (stops d')
 
 -- the device is silent

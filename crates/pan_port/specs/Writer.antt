@@ -1,5 +1,5 @@
 -- An asker for the tests: it stores the numbers from n down to 1 and exits, in a step for each store and one for the exit.
-use Rattle.std.specs.Prelude.{ℕ, ◌+◌, ◌-◌, zero, suc, List, [], ◌∷◌, Option, Some, None, true, false}
+use Rattle.std.specs.Prelude.{ℕ, ◌+◌, ◌-◌, zero, suc, List, [], ◌∷◌, Some, None, true, false}
 use Rattle.pan_base.specs.declared.events.Size.TheVariants.{B8}
 use Rattle.pan_base.specs.declared.events.End.{End}
 use Rattle.pan_base.specs.declared.events.End.TheVariants as told_end

@@ -1,8 +1,8 @@
 //! Counts of a device's answers.
 
-ghost use Rattle.std.specs.Prelude.{◌≡◌, if◌then◌else◌};
-ghost use Rattle.pan_base.specs.Counts.{next_count};
-ghost use Rattle.pan_port.specs.Device.{Counted, is_quiet, is_stop};
+ghost use Rattle.std.specs.Prelude.{◌≡◌, ℕ, List};
+ghost use Rattle.pan_port.specs.Counts.{counts_after};
+ghost use Rattle.pan_port.specs.Device.{Counted, given, given_by_array};
 
 use crate::device::Answer;
 
@@ -26,8 +26,8 @@ impl Counts {
 
     /// Counts an answer.
     pub fn count(&mut self, answer: Answer)
-        ensures stops { self.new.stops ≡ (if is_stop answer then next_count self.old.stops else self.old.stops) }
-        ensures silences { self.new.silences ≡ (if is_quiet answer then next_count self.old.silences else self.old.silences) }
+        ensures given { self.new ≡ counts_after (given answer) self.old }
+        ensures by_array { (array : List ℕ) → self.new ≡ counts_after (given_by_array answer array) self.old }
         ensures counted { Counted answer self.old.stops self.new.stops self.old.silences self.new.silences }
     {
         match answer {

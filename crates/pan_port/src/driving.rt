@@ -36,7 +36,8 @@ enum Served {
 fn ask<D: Device>(device: &mut D, request: &Request<'_>, room: &mut [u8]) -> Answer
     requires { BuffersFit request.now (length room.old) }
     ensures step { D.gives device.old (asked request.now) (given_in request.now result room.new) device.new }
-    ensures counts { Counted result (D.stops device.old) (D.stops device.new) (D.silences device.old) (D.silences device.new) }
+    ensures counts { Counted result (D.stops device.old) (D.stops device.new)
+        (D.silences device.old) (D.silences device.new) }
     ensures one_line { IsOneLine (asked request.now) }
 {
     match *request {
@@ -82,8 +83,10 @@ fn serve<A: Asker, D: Device, O: Sink>(
     requires asks { IsSome (A.meaning asker.old).pending }
     requires room { (A.meaning asker.old).size ≤ length room.old }
     ensures served { (q : Asked) → (A.meaning asker.old).pending ≡ Some q →
-        ServedSo D.gives D.stops D.silences (A.meaning asker.old) (A.meaning asker.new) device.old device.new (O.state out.old) (O.state out.new) q result }
-    ensures keeps { Keeps D.stops D.silences (A.meaning asker.old) (A.meaning asker.new) device.old device.new (O.state out.old) (O.state out.new) }
+        ServedSo D.gives D.stops D.silences (A.meaning asker.old) (A.meaning asker.new)
+        device.old device.new (O.state out.old) (O.state out.new) q result }
+    ensures keeps { Keeps D.stops D.silences (A.meaning asker.old) (A.meaning asker.new)
+        device.old device.new (O.state out.old) (O.state out.new) }
 {
     let request = match asker.request() {
         Some(request) => request,
@@ -119,13 +122,14 @@ pub fn drive<A: Asker, D: Device, O: Sink>(
     budget: u64,
 ) -> Result<End, DriveFault>
     requires { (A.meaning asker.old).size ≤ length room.old }
-    ensures ran { IfOk result (λ end.
-        Drove D.gives D.stops D.silences (A.meaning asker.old) (A.meaning asker.new) device.old device.new (O.state out.old) (O.state out.new) budget end) }
-    ensures write { result ≡ Err DriveFault.WriteFault →
-        Unwritten D.gives (A.meaning asker.old) (A.meaning asker.new) device.old device.new (O.state out.old) (O.state out.new) budget }
-    ensures memory { result ≡ Err DriveFault.NoMemory →
-        Hungry D.gives (A.meaning asker.old) (A.meaning asker.new) device.old device.new (O.state out.old) (O.state out.new) budget }
-    ensures keeps { Keeps D.stops D.silences (A.meaning asker.old) (A.meaning asker.new) device.old device.new (O.state out.old) (O.state out.new) }
+    ensures ran { IfOk result (λ end. Drove D.gives D.stops D.silences
+        (A.meaning asker.old) (A.meaning asker.new) device.old device.new (O.state out.old) (O.state out.new) budget end) }
+    ensures write { result ≡ Err DriveFault.WriteFault → Unwritten D.gives
+        (A.meaning asker.old) (A.meaning asker.new) device.old device.new (O.state out.old) (O.state out.new) budget }
+    ensures memory { result ≡ Err DriveFault.NoMemory → Hungry D.gives
+        (A.meaning asker.old) (A.meaning asker.new) device.old device.new (O.state out.old) (O.state out.new) budget }
+    ensures keeps { Keeps D.stops D.silences (A.meaning asker.old) (A.meaning asker.new)
+        device.old device.new (O.state out.old) (O.state out.new) }
 {
     let mut left = budget;
     'turns: loop {

@@ -1,7 +1,8 @@
 //! A device that answers a list of replies.
 
-ghost use Rattle.std.specs.Prelude.{◌≡◌, ◌+◌, length, min, option_copied};
+ghost use Rattle.std.specs.Prelude.{◌≡◌, ◌+◌, ℕ, List, length, min, option_copied};
 ghost use Rattle.pan_base.specs.Events.{Load, Foreign};
+ghost use Rattle.pan_port.specs.Counts.{counts_after};
 ghost use Rattle.pan_port.specs.Device.{Counted, given, given_by_array};
 ghost use Rattle.pan_port.specs.Replies.{access_given, call_given};
 
@@ -71,7 +72,8 @@ fn write_over(array: &mut [u8], bytes: &[u8]) -> Answer
 impl ReplyList {
     /// Nothing answered yet.
     pub fn new(replies: List<OwnReply>) -> ReplyList
-        ensures { (result.replies ≡ replies) × (result.next ≡ 0) × (result.counts.stops ≡ 0) × (result.counts.silences ≡ 0) }
+        ensures { (result.replies ≡ replies) × (result.next ≡ 0)
+            × (result.counts.stops ≡ 0) × (result.counts.silences ≡ 0) }
     {
         ReplyList {
             replies,
@@ -84,7 +86,11 @@ impl ReplyList {
     fn go_on(&mut self, answer: Answer)
         ensures replies { self.new.replies ≡ self.old.replies }
         ensures next { self.new.next ≡ min (self.old.next + 1) (length self.old.replies) }
-        ensures counted { Counted answer self.old.counts.stops self.new.counts.stops self.old.counts.silences self.new.counts.silences }
+        ensures given { self.new.counts ≡ counts_after (given answer) self.old.counts }
+        ensures by_array { (array : List ℕ) →
+            self.new.counts ≡ counts_after (given_by_array answer array) self.old.counts }
+        ensures counted { Counted answer self.old.counts.stops self.new.counts.stops
+            self.old.counts.silences self.new.counts.silences }
     {
         self.next = self.next.saturating_add(1).min(self.replies.len());
         self.counts.count(answer);
@@ -93,9 +99,11 @@ impl ReplyList {
 
 impl Device for ReplyList {
     ghost use Rattle.std.specs.Prelude.{◌≡◌, ◌+◌, length, min, slice_get};
+    ghost use Rattle.pan_port.specs.Counts.{counts_after};
     ghost use Rattle.pan_port.specs.Replies.{next_given};
 
-    ghost gives = { λ s q g t. (g ≡ next_given q (slice_get s.replies s.next)) × (t.replies ≡ s.replies) × (t.next ≡ min (s.next + 1) (length s.replies)) };
+    ghost gives = { λ s q g t. (g ≡ next_given q (slice_get s.replies s.next)) × (t.replies ≡ s.replies)
+        × (t.next ≡ min (s.next + 1) (length s.replies)) × (t.counts ≡ counts_after g s.counts) };
 
     ghost stops = { λ s. s.counts.stops };
 

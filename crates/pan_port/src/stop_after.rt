@@ -1,7 +1,8 @@
 //! A device that stops after a while.
 
-ghost use Rattle.std.specs.Prelude.{◌≡◌, ◌-◌, if◌then◌else◌};
-ghost use Rattle.pan_port.specs.Device.{Counted, is_quiet};
+ghost use Rattle.std.specs.Prelude.{◌≡◌, ◌-◌, ℕ, List, if◌then◌else◌};
+ghost use Rattle.pan_port.specs.Counts.{counts_after};
+ghost use Rattle.pan_port.specs.Device.{Counted, given, given_by_array, is_quiet};
 
 use crate::counts::Counts;
 use crate::device::{Answer, Device};
@@ -19,7 +20,8 @@ pub struct StopAfter<D> {
 impl<D> StopAfter<D> {
     /// Stops after so many answers.
     pub fn new(inner: D, after: u64) -> StopAfter<D>
-        ensures { (result.inner ≡ inner) × (result.left ≡ after) × (result.counts.stops ≡ 0) × (result.counts.silences ≡ 0) }
+        ensures { (result.inner ≡ inner) × (result.left ≡ after)
+            × (result.counts.stops ≡ 0) × (result.counts.silences ≡ 0) }
     {
         StopAfter {
             inner,
@@ -32,7 +34,11 @@ impl<D> StopAfter<D> {
     fn count(&mut self, answer: Answer)
         ensures inner { self.new.inner ≡ self.old.inner }
         ensures left { self.new.left ≡ (if is_quiet answer then self.old.left else self.old.left - 1) }
-        ensures counted { Counted answer self.old.counts.stops self.new.counts.stops self.old.counts.silences self.new.counts.silences }
+        ensures given { self.new.counts ≡ counts_after (given answer) self.old.counts }
+        ensures by_array { (array : List ℕ) →
+            self.new.counts ≡ counts_after (given_by_array answer array) self.old.counts }
+        ensures counted { Counted answer self.old.counts.stops self.new.counts.stops
+            self.old.counts.silences self.new.counts.silences }
     {
         if answer != Answer::Quiet {
             self.left = self.left.saturating_sub(1);
@@ -42,9 +48,12 @@ impl<D> StopAfter<D> {
 }
 
 impl<D: Device> Device for StopAfter<D> {
+    ghost use Rattle.std.specs.Prelude.{◌≡◌};
+    ghost use Rattle.pan_port.specs.Counts.{counts_after};
     ghost use Rattle.pan_port.specs.StopAfter.{PassesOn};
 
-    ghost gives = { λ s q g t. PassesOn D.gives s.left s.inner q g t.inner t.left };
+    ghost gives = { λ s q g t. PassesOn D.gives s.left s.inner q g t.inner t.left
+        × (t.counts ≡ counts_after g s.counts) };
 
     ghost stops = { λ s. s.counts.stops };
 

@@ -17,16 +17,8 @@ digit_is base b n e = by_test (is_digit_in base b) e
     by_test true e = (refl, cc)
     by_test false e = absurd (cc)
 
--- none comes
-pub no_digit_is : (base b : ℕ) → digit_of base b ≡ None → is_digit_in base b ≡ false
-no_digit_is base b e = by_test (is_digit_in base b) e
-  where
-    by_test : (t : Bool) → cond t (Some (digit_value b)) None ≡ None → t ≡ false
-    by_test true e = absurd (cc)
-    by_test false e = refl
-
 -- digits make a number no smaller
-pub value_after_grows : (base n : ℕ) (ds : List ℕ) → 0 < base → n ≤ value_after base n ds
+value_after_grows : (base n : ℕ) (ds : List ℕ) → 0 < base → n ≤ value_after base n ds
 value_after_grows base n [] h = omega arith
 value_after_grows base n (d ∷ ds) h =
     let more = value_after_grows base (n * base + digit_value d) ds h in
@@ -41,31 +33,22 @@ by_tests_both : (a b : Bool) (n : ℕ) → a ≡ true → b ≡ true → by_test
 unfolding by_tests
 by_tests_both a b n p q = rw (p, q) refl
 
-by_tests_first : (a b : Bool) (n : ℕ) → a ≡ false → by_tests a b n ≡ None
-unfolding by_tests
-by_tests_first a b n p = rw p refl
-
 by_tests_second : (a b : Bool) (n : ℕ) → b ≡ false → by_tests a b n ≡ None
 unfolding by_tests
 by_tests_second true b n q = rw q refl
 by_tests_second false b n q = refl
 
-value_of_small : (base : ℕ) (ds : List ℕ) → 0 < length ds → list_all (is_digit_in base) ds ≡ true → value_after base 0 ds < 2 ^ 64 → number_of_digits base (is_digit_in base) ds ≡ Some (value_after base 0 ds)
+small_number : (base : ℕ) (ds : List ℕ) → 0 < length ds → list_all (is_digit_in base) ds ≡ true → value_after base 0 ds < 2 ^ 64 → number_of_digits base (is_digit_in base) ds ≡ Some (value_after base 0 ds)
 unfolding by_tests
-value_of_small base [] some all small = absurd (omega arith)
-value_of_small base (d ∷ ds) some all small =
+small_number base [] some all small = absurd (omega arith)
+small_number base (d ∷ ds) some all small =
     let fits : ltb (value_after base (0 * base + digit_value d) ds) (2 ^ 64) ≡ true = grind (arith, nat_tests) in
     by_tests_both _ _ _ all fits
 
-pub value_of_other : (base : ℕ) (ds : List ℕ) → list_all (is_digit_in base) ds ≡ false → number_of_digits base (is_digit_in base) ds ≡ None
+large_number : (base : ℕ) (ds : List ℕ) → 2 ^ 64 ≤ value_after base 0 ds → number_of_digits base (is_digit_in base) ds ≡ None
 unfolding by_tests
-value_of_other base [] other = refl
-value_of_other base (d ∷ ds) other = by_tests_first _ _ _ other
-
-value_of_large : (base : ℕ) (ds : List ℕ) → 2 ^ 64 ≤ value_after base 0 ds → number_of_digits base (is_digit_in base) ds ≡ None
-unfolding by_tests
-value_of_large base [] large = refl
-value_of_large base (d ∷ ds) large =
+large_number base [] large = refl
+large_number base (d ∷ ds) large =
     let over : ltb (value_after base (0 * base + digit_value d) ds) (2 ^ 64) ≡ false = grind (arith, nat_tests) in
     by_tests_second _ _ _ over
 
@@ -74,7 +57,7 @@ pub too_large : (base v i : ℕ) (ds : List ℕ) → 0 < base → i < length ds 
 too_large base v i ds base_in within same over =
     let next : value_after base v (drop i ds) ≡ value_after base (v * base + digit_value (get_or ds i 0)) (drop (suc i) ds) = ap (value_after base v) (drop-cons ds i 0 within) in
     let grows = value_after_grows base (v * base + digit_value (get_or ds i 0)) (drop (suc i) ds) base_in in
-    value_of_large base ds (omega (arith, next, grows, same))
+    large_number base ds (omega (arith, next, grows, same))
 
 -- all digits are read
 pub all_read : (base v i : ℕ) (ds : List ℕ) → 0 < length ds → length ds ≤ i → value_after base v (drop i ds) ≡ value_after base 0 ds → list_all (is_digit_in base) (drop i ds) ≡ list_all (is_digit_in base) ds → v < 2 ^ 64 → Some v ≡ number_of_digits base (is_digit_in base) ds
@@ -82,7 +65,7 @@ all_read base v i ds some past same digits small =
     let none : drop i ds ≡ [] = drop_all i ds past in
     let value : v ≡ value_after base 0 ds = sym (ap (value_after base v) none) ∙ same in
     let all : list_all (is_digit_in base) ds ≡ true = sym digits ∙ ap (list_all (is_digit_in base)) none in
-    ap Some value ∙ sym (value_of_small base ds some all (subst (λ n. n < 2 ^ 64) value small))
+    ap Some value ∙ sym (small_number base ds some all (subst (λ n. n < 2 ^ 64) value small))
 
 -- ---- the digits of a base
 

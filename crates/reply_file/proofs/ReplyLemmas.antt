@@ -75,6 +75,7 @@ pub record Failed (file : Result (List Replied) Refusal) (answer : Result (List 
   pub exact_replies : (rs : List Replied) → file ≡ Ok rs → IsOkAnd answer (λ own. map own_replied own ≡ rs) ⊎ (answer ≡ Err told.NoMemory)
   pub exact_refusal : (r : Refusal) → file ≡ Err r → (answer ≡ Err (told.Line r.line r.cause)) ⊎ (answer ≡ Err told.NoMemory)
 
+-- the answer that is this error
 abbrev answer_of : ReplyFileError → Result (List OwnReply) ReplyFileError
 answer_of e = Err e
 

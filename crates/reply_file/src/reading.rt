@@ -81,6 +81,8 @@ fn put_line(replies: &mut List<OwnReply>, number: u64, line: &[u8]) -> Result<()
 /// Spaces and tabs part its words. It says nothing if it has no words or its first begins with `#`; else it is
 /// `done`, `stop`, or `value` and a number below 2^64 in decimal digits, or in hexadecimal ones after `0x`.
 ///
+/// It takes memory for the replies alone, and time in proportion to the bytes.
+///
 /// # Errors
 ///
 /// The number of the first line that is none of these, and why; or want of memory.

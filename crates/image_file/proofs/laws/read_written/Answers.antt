@@ -1,5 +1,3 @@
-use Rattle.std.proofs.Common.{◌≡◌, sym, subst}
-use Rattle.std.proofs.Common.{List, ℕ}
 use Rattle.riscv_isa.specs.Image.{ImageOf}
 use Rattle.image_file.proofs.laws.read_written.Goals as goal
 

@@ -1,7 +1,5 @@
-use Rattle.std.proofs.Common.{◌≡◌, None, Some, inl, inr, refl, sym, ◌∙◌, arith}
+use Rattle.std.proofs.Common.{None, Some, inr, sym, ◌∙◌, arith}
 use Rattle.std.proofs.lemmas.Result.{err_from_is_err_and}
-use Rattle.riscv_isa.specs.Image.{ImageOf}
-use Rattle.image_file.specs.Fields.{bound_in}
 use Rattle.image_file.proofs.FaultLaws.{in_header}
 use Rattle.image_file.proofs.ReadLaws.{names_fault, end_fault, image_found}
 use Rattle.image_file.proofs.reading.read.Goals as goal

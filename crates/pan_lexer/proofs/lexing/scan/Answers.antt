@@ -3,7 +3,7 @@ use Rattle.std.specs.Prelude.{map}
 use Rattle.pan_base.specs.Lexing.{IsStuckAt}
 use Rattle.pan_base.specs.Tokens.{placed}
 use Rattle.pan_lexer.specs.Found.{kind_in}
-use Rattle.pan_lexer.proofs.RowLemmas.{ScannedSo, scanned_none, scanned_more, scanned_shorter, scanned_all, scanned_stuck}
+use Rattle.pan_lexer.proofs.RowLemmas.{scanned_none, scanned_more, scanned_shorter, scanned_all, scanned_stuck}
 use Rattle.pan_lexer.proofs.lexing.scan.Goals as goal
 
 pub pieces-init : goal.pieces-init

@@ -1,4 +1,4 @@
-use Rattle.std.proofs.Common.{◌≡◌, ◌∙◌}
+use Rattle.std.proofs.Common.{◌≡◌}
 use Rattle.pan_lexer.specs.Pieces.{sign_of}
 use Rattle.pan_lexer.proofs.SignLemmas.{sign_by_three, sign_within_some}
 use Rattle.pan_lexer.proofs.signs.sign.Goals as goal

@@ -1,6 +1,4 @@
-use Rattle.std.proofs.Common.{◌≡◌, ◌+◌, ◌-◌, ◌<◌, ◌≤◌, take, drop, length, ap, sym, ◌∙◌, arith}
-use Rattle.std.specs.List.{prefix_len}
-use Rattle.reply_file.specs.Cutting.{is_in_line}
+use Rattle.std.proofs.Common.{arith}
 use Rattle.reply_file.proofs.CuttingLemmas.{first_line_cut, only_line}
 use Rattle.reply_file.proofs.cutting.next_line.Goals as goal
 

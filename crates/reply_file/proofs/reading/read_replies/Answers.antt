@@ -1,8 +1,8 @@
-use Rattle.std.proofs.Common.{◌≡◌, ap, ◌∙◌, sym, map, Err, inl, arith}
+use Rattle.std.proofs.Common.{ap, ◌∙◌, map, Err, inl, arith}
 use Rattle.std.proofs.lemmas.Result.{err_from_is_err_and}
 use Rattle.reply_file.specs.Lines.{lines}
 use Rattle.reply_file.specs.Replies.{said_from, replies_of_file}
-use Rattle.reply_file.specs.Told.{own_replied, Refuses}
+use Rattle.reply_file.specs.Told.{own_replied}
 use Rattle.reply_file.proofs.ReplyLemmas.{before, more_lines, all_lines, wrong_line, first_of_lines, failed}
 use Rattle.reply_file.proofs.reading.read_replies.Goals as goal
 

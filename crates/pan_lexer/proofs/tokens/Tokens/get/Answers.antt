@@ -1,4 +1,4 @@
-use Rattle.std.proofs.Common.{◌≡◌, ◌<◌, ◌≤◌, length, ap, subst, arith}
+use Rattle.std.proofs.Common.{◌<◌, length, ap, arith}
 use Rattle.std.specs.Prelude.{map}
 use Rattle.pan_base.specs.Tokens.{placed}
 use Rattle.pan_lexer.proofs.OrderLemmas.{within_order}
