@@ -1,6 +1,6 @@
 -- How a call with lawful words ends where no fault of the outside came.
 use Rattle.std.proofs.Common.{◌≡◌, ℕ, List, [], ◌∷◌, Option, Some, None, refl, sym, ap, ◌∙◌, subst, inl, inr}
-use Rattle.std.specs.Prelude.{◌⊎◌}
+use Rattle.std.specs.Prelude.{◌⊎◌, codes}
 use Rattle.pan_base.specs.Files.{Files}
 use Rattle.pan_tree.specs.declared.program.Program.{Program}
 use Rattle.pan_command.specs.declared.status.Status.{Status}
@@ -34,10 +34,17 @@ not_held (Some f) all name bytes told gone h =
     let k : all name ≡ Some bytes = sym (ap (λ (f : Files). f name) g) ∙ h in
     cc
 
+-- no words are those of both actions
+other_action : (words : List (List ℕ)) (a b c d : List ℕ) → AreLawful (codes "run") words a b → AreLawful (codes "compile") words c d → ⊥
+other_action words a b c d p q = let e = sym p.all ∙ q.all in cc
+
 module _ (before after : Outside) (all : Files) (source image : List ℕ) (told : (before.files).files ≡ Some all) (fine : NoFault before after) where
   served_ends : (bytes : List ℕ) (program : Program) → all source ≡ Some bytes → IsServed bytes program → (s : Status) → CompileEnds source image before after s → (code s ≡ 0) ⊎ (code s ≡ 8)
   served_ends bytes program there served status.Done h = inl refl
   served_ends bytes program there served status.Usage h = absurd h
+  served_ends bytes program there served status.NoImage h = absurd h
+  served_ends bytes program there served status.NoScript h = absurd h
+  served_ends bytes program there served (status.Ran end) h = absurd h
   served_ends bytes program there served status.Unread h = absurd (elim h.cause [ inl r ↦ fine.reads r | inr l ↦ not_lacks _ all source bytes told there l ])
   served_ends bytes program there served status.Refused h = absurd (h.refused program (subst (λ b. IsServed b program) (sym (same_bytes _ all source bytes h.bytes told there h.held)) served))
   served_ends bytes program there served status.Unwritten h = absurd (fine.writes h.cause)
@@ -47,6 +54,9 @@ module _ (before after : Outside) (all : Files) (source image : List ℕ) (told 
   refused_ends : (bytes : List ℕ) → all source ≡ Some bytes → IsRefused bytes → (s : Status) → CompileEnds source image before after s → (code s ≡ 4) ⊎ (code s ≡ 8)
   refused_ends bytes there refused status.Done h = absurd (refused (h.built).program (subst (λ b. IsServed b (h.built).program) (same_bytes _ all source bytes (h.built).bytes told there (h.built).held) (h.built).served))
   refused_ends bytes there refused status.Usage h = absurd h
+  refused_ends bytes there refused status.NoImage h = absurd h
+  refused_ends bytes there refused status.NoScript h = absurd h
+  refused_ends bytes there refused (status.Ran end) h = absurd h
   refused_ends bytes there refused status.Unread h = absurd (elim h.cause [ inl r ↦ fine.reads r | inr l ↦ not_lacks _ all source bytes told there l ])
   refused_ends bytes there refused status.Refused h = inl refl
   refused_ends bytes there refused status.Unwritten h = absurd (fine.writes h.cause)
@@ -56,6 +66,9 @@ module _ (before after : Outside) (all : Files) (source image : List ℕ) (told 
   missing_ends : all source ≡ None → (s : Status) → CompileEnds source image before after s → (code s ≡ 3) ⊎ (code s ≡ 8)
   missing_ends gone status.Done h = absurd (not_held _ all source (h.built).bytes told gone (h.built).held)
   missing_ends gone status.Usage h = absurd h
+  missing_ends gone status.NoImage h = absurd h
+  missing_ends gone status.NoScript h = absurd h
+  missing_ends gone (status.Ran end) h = absurd h
   missing_ends gone status.Unread h = inl refl
   missing_ends gone status.Refused h = absurd (not_held _ all source h.bytes told gone h.held)
   missing_ends gone status.Unwritten h = absurd (fine.writes h.cause)
@@ -63,24 +76,25 @@ module _ (before after : Outside) (all : Files) (source image : List ℕ) (told 
   missing_ends gone status.NoMemory h = inr refl
 
   -- with these lawful words the call ends as `compile` on these names does
-  compiles : (words : List (List ℕ)) (s : Status) → AreLawful words source image → Ends words before after s → CompileEnds source image before after s
-  compiles words s lawful (inl p) = absurd (p.0 source image lawful)
-  compiles words s lawful (inr p) =
+  compiles : (words : List (List ℕ)) (s : Status) → AreLawful (codes "compile") words source image → Ends words before after s → CompileEnds source image before after s
+  compiles words s lawful (inl p) = absurd ((p.0 source image).0 lawful)
+  compiles words s lawful (inr (inr p)) = absurd (other_action words p.0 p.1 source image p.2 lawful)
+  compiles words s lawful (inr (inl p)) =
       let e : p.0 ≡ source = names p.0 p.1 p.2 in
       let f : p.1 ≡ image = images p.0 p.1 p.2 in
       subst (λ i. CompileEnds source i before after s) f (subst (λ n. CompileEnds n p.1 before after s) e p.3)
     where
-      names : (n i : List ℕ) → AreLawful words n i → n ≡ source
+      names : (n i : List ℕ) → AreLawful (codes "compile") words n i → n ≡ source
       names n i p = let e = sym p.all ∙ lawful.all in cc
 
-      images : (n i : List ℕ) → AreLawful words n i → i ≡ image
+      images : (n i : List ℕ) → AreLawful (codes "compile") words n i → i ≡ image
       images n i p = let e = sym p.all ∙ lawful.all in cc
 
-  pub completes : (words : List (List ℕ)) (s : Status) (bytes : List ℕ) (program : Program) → AreLawful words source image → all source ≡ Some bytes → IsServed bytes program → Ends words before after s → (code s ≡ 0) ⊎ (code s ≡ 8)
+  pub completes : (words : List (List ℕ)) (s : Status) (bytes : List ℕ) (program : Program) → AreLawful (codes "compile") words source image → all source ≡ Some bytes → IsServed bytes program → Ends words before after s → (code s ≡ 0) ⊎ (code s ≡ 8)
   completes words s bytes program lawful there served h = served_ends bytes program there served s (compiles words s lawful h)
 
-  pub refuses : (words : List (List ℕ)) (s : Status) (bytes : List ℕ) → AreLawful words source image → all source ≡ Some bytes → IsRefused bytes → Ends words before after s → (code s ≡ 4) ⊎ (code s ≡ 8)
+  pub refuses : (words : List (List ℕ)) (s : Status) (bytes : List ℕ) → AreLawful (codes "compile") words source image → all source ≡ Some bytes → IsRefused bytes → Ends words before after s → (code s ≡ 4) ⊎ (code s ≡ 8)
   refuses words s bytes lawful there refused h = refused_ends bytes there refused s (compiles words s lawful h)
 
-  pub misses : (words : List (List ℕ)) (s : Status) → AreLawful words source image → all source ≡ None → Ends words before after s → (code s ≡ 3) ⊎ (code s ≡ 8)
+  pub misses : (words : List (List ℕ)) (s : Status) → AreLawful (codes "compile") words source image → all source ≡ None → Ends words before after s → (code s ≡ 3) ⊎ (code s ≡ 8)
   misses words s lawful gone h = missing_ends gone s (compiles words s lawful h)

@@ -1,5 +1,6 @@
 pub mod Completeness
 pub mod Listed
+pub mod Starting
 pub mod Storing
 pub mod UsedReplies
 pub mod WordLemmas

@@ -50,6 +50,9 @@ module _ (before mid after : Outside) (source name bytes : List ℕ) (image : Li
   pub compile_ends : (s : Status) → StoreEnds name image mid after s → CompileEnds source name before after s
   compile_ends status.Done h = record { built = made; stored = stored_after _ _ _ _ _ same h.0; line = took _ h.1 }
   compile_ends status.Usage h = absurd h
+  compile_ends status.NoImage h = absurd h
+  compile_ends status.NoScript h = absurd h
+  compile_ends (status.Ran end) h = absurd h
   compile_ends status.Unread h = absurd h
   compile_ends status.Refused h = absurd h
   compile_ends status.Unwritten h = record { built = made; cause = wrote h.0; stored = stored_below_after _ _ _ _ _ _ same h.1; line = took _ h.2 }
