@@ -1,4 +1,5 @@
 pub mod Completeness
+pub mod Going
 pub mod Listed
 pub mod Starting
 pub mod Storing

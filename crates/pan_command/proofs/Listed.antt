@@ -5,6 +5,7 @@ use Rattle.std.specs.List.{list_all}
 use Rattle.std.specs.Prelude.{nat_lt}
 use Rattle.std.proofs.lemmas.Bool.{false≢true}
 use Rattle.pan_base.specs.Events.{Asked, Load, Store, Foreign, Replied, Value, Done, Bytes, Stop, Event, Ending, Exit, Uncaught, Stopped, Asks, Spent, Stack, Fault, Fails, Behaviour, Fits}
+use Rattle.pan_port.specs.Counts.{counts_after}
 use Rattle.pan_port.specs.Device.{Given, Gave, Silent}
 use Rattle.pan_port.specs.Drive.{replies_of, Answered, Closes, AreGiven}
 use Rattle.pan_port.specs.Replies.{next_given}
@@ -16,7 +17,7 @@ use Rattle.pan_command.proofs.UsedReplies.{MayFollow, AllFit}
 
 -- what a reply list gives, from one state to another
 abbrev pub list_gives : ReplyList → Asked → Given → ReplyList → Type 0
-list_gives s q g t = (g ≡ next_given q (slice_get s.replies s.next)) × (t.replies ≡ s.replies) × (t.next ≡ min (s.next + 1) (length s.replies))
+list_gives s q g t = (g ≡ next_given q (slice_get s.replies s.next)) × (t.replies ≡ s.replies) × (t.next ≡ min (s.next + 1) (length s.replies)) × (t.counts ≡ counts_after g s.counts)
 
 gave : (r s : Replied) → Gave r ≡ Gave s → r ≡ s
 gave r s e = cc
