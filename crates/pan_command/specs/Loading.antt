@@ -1,5 +1,5 @@
 -- What the reading of a file, of an image and of replies leaves; no file changes.
-use Rattle.std.specs.Prelude.{◌≡◌, ◌⊎◌, ℕ, List, [], map, Result, Ok, Err}
+use Rattle.std.specs.Prelude.{◌≡◌, ◌⊎◌, ◌≤◌, ℕ, List, [], map, Result, Ok, Err}
 use Rattle.pan_base.specs.Causes.{Rose}
 use Rattle.pan_base.specs.Files.{NoneChanged}
 use Rattle.pan_base.specs.Sinks.{Took, TookFront}
@@ -13,9 +13,10 @@ use Rattle.pan_command.specs.declared.status.Status.TheVariants as status
 use Rattle.pan_command.specs.Outside.{Outside, Holds}
 use Rattle.pan_command.specs.Run.{FileUnread, ImageRead, NoImage, ScriptRefused}
 
--- nothing was put, and no write failed
+-- nothing was put, no write failed, and the count of failed reads didn't fall
 pub record IsQuiet (before after : Outside) : Type 0 where
   pub out : after.out ≡ before.out
+  pub reads : (before.files).failed_reads ≤ (after.files).failed_reads
   pub writes : (after.files).failed_writes ≡ (before.files).failed_writes
 
 -- the file's bytes, or why there are none
