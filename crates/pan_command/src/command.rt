@@ -1,6 +1,6 @@
 //! The top call.
 
-ghost use Rattle.std.specs.Prelude.{◌≡◌, ◌⊎◌, List, ℕ, codes, Some, None, Ok, IsTrue, ◌↔◌};
+ghost use Rattle.std.specs.Prelude.{◌≡◌, ◌⊎◌, List, ℕ, codes, Some, None, Ok, IsTrue, ◌↔◌, IfSome, IfNone};
 ghost use Rattle.pan_base.specs.Causes.{Rose};
 ghost use Rattle.pan_base.specs.Events.{Replied, end_of};
 ghost use Rattle.pan_base.specs.Files.{Files, NoneChanged};
@@ -84,28 +84,34 @@ fn is_name(word: &str) -> bool
     }
 }
 
+/// The two names that follow the action, if the words are the action's.
+fn names_of<'x>(words: &'x [Text], action: &str) -> Option<(&'x str, &'x str)>
+    ensures lawful { IfSome result (λ names. AreLawful action.now words.now names.0.now names.1.now) }
+    ensures unlawful { IfNone result ((first second : List ℕ) → ¬ AreLawful action.now words.now first second) }
+{
+    match words {
+        [name, first, second]
+            if name.as_str() == action && is_name(first.as_str()) && is_name(second.as_str()) =>
+        {
+            Some((first.as_str(), second.as_str()))
+        }
+        _ => None,
+    }
+}
+
 /// Does what the words ask for.
 fn act<W: Workspace, O: Sink>(alloc: Global, words: &[Text], files: &mut W, out: &mut O) -> Status
     ensures { Ends words.now (outside (W.state files.old) (O.state out.old)) (outside (W.state files.new) (O.state out.new)) result }
 {
-    match words {
-        [action, source, image]
-            if action.as_str() == "compile"
-                && is_name(source.as_str())
-                && is_name(image.as_str()) => {
-            compile(alloc, source.as_str(), image.as_str(), files, out)
-        }
-        [action, image, script]
-            if action.as_str() == "run"
-                && is_name(image.as_str())
-                && is_name(script.as_str()) =>
-        {
-            run(alloc, image.as_str(), script.as_str(), files, out)
-        }
-        _ => match put_all(out, b"usage\n") {
-            Ok(()) => Status::Usage,
-            Err(SinkFault) => Status::Unput,
-        },
+    if let Some((source, image)) = names_of(words, "compile") {
+        return compile(alloc, source, image, files, out);
+    }
+    if let Some((image, script)) = names_of(words, "run") {
+        return run(alloc, image, script, files, out);
+    }
+    match put_all(out, b"usage\n") {
+        Ok(()) => Status::Usage,
+        Err(SinkFault) => Status::Unput,
     }
 }
 
