@@ -1,6 +1,7 @@
 pub mod Completeness
 pub mod Going
 pub mod Listed
+pub mod RunCompleteness
 pub mod RunEnding
 pub mod Starting
 pub mod Storing
