@@ -1,5 +1,5 @@
 -- How a call with lawful words ends where no fault of the outside came.
-use Rattle.std.proofs.Common.{◌≡◌, ℕ, List, [], ◌∷◌, Option, Some, None, refl, sym, ap, ◌∙◌, subst, inl, inr}
+use Rattle.std.proofs.Common.{◌≡◌, ℕ, List, Option, Some, None, refl, sym, ap, ◌∙◌, subst, inl, inr}
 use Rattle.std.specs.Prelude.{◌⊎◌, codes}
 use Rattle.pan_base.specs.Files.{Files}
 use Rattle.pan_base.specs.Sinks.{Took}

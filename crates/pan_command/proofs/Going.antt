@@ -1,5 +1,5 @@
 -- What a machine at its start puts over a list of replies.
-use Rattle.std.proofs.Common.{◌≡◌, ℕ, ◌+◌, ◌-◌, ◌≤◌, zero, suc, refl, sym, ap, ◌∙◌, subst, List, [], ◌∷◌, ◌++◌, append_assoc, map, drop, arith}
+use Rattle.std.proofs.Common.{◌≡◌, ℕ, ◌+◌, ◌-◌, ◌≤◌, sym, ap, ◌∙◌, subst, List, [], ◌∷◌, ◌++◌, append_assoc, map, drop, arith}
 use Rattle.std.proofs.lemmas.List.{append-nil}
 use Rattle.std.proofs.lemmas.List.Concat.{flat_map-append}
 use Rattle.pan_base.specs.Causes.{Rose}
@@ -30,7 +30,7 @@ behaves k s b replies listed d t is whole given =
     let l : Lists b (left d) = lists b replies d t fit given in
     let all : listed ≡ replies_of b.events ++ l.rest = sym whole ∙ l.all in
     let again : run k s (replies_of b.events ++ l.rest) ≡ b =
-        subst (λ (b : Behaviour). run k s (replies_of b.events ++ l.rest) ≡ b) (sym is) (used k s replies l.rest (subst (λ (b : Behaviour). MayFollow b.ending l.rest) is l.follows)) in
+    subst (λ (b : Behaviour). run k s (replies_of b.events ++ l.rest) ≡ b) (sym is) (used k s replies l.rest (subst (λ (b : Behaviour). MayFollow b.ending l.rest) is l.follows)) in
     ap (run k s) all ∙ again
 
 -- the trace was put, and then the line of the end
@@ -43,7 +43,7 @@ puts_all b told end old mid new is ends trace line =
 pub puts_front : (b told : Behaviour) (end : End) (old mid new : SinkState) → told ≡ b → end_of b.ending ≡ end → Took old mid (trace_text b.events) → TookFront mid new (end_line end) → TookFront old new (text_of told)
 puts_front b told end old mid new is ends trace line =
     let e : text_of told ≡ trace_text b.events ++ (end_line end ++ []) =
-        ap text_of is ∙ ap (λ e. trace_text b.events ++ end_line e) ends ∙ ap (λ t. trace_text b.events ++ t) (sym (append-nil (end_line end))) in
+    ap text_of is ∙ ap (λ e. trace_text b.events ++ end_line e) ends ∙ ap (λ t. trace_text b.events ++ t) (sym (append-nil (end_line end))) in
     TookFront-on old mid new (trace_text b.events) (end_line end) [] (text_of told) trace line e
 
 -- a count that did not fall and then rose
@@ -75,6 +75,6 @@ puts_part k s m m' listed d t old new goes whole u =
     let steps : k ≡ u.used + (k - u.used) = omega (arith, within) in
     let on = (u.asking).event u.reply (left t) (k - u.used) u.fits in
     let goes_so : run k s listed ≡ after u.events (before u.request u.reply on.0) =
-        ap (run k s) all ∙ ap (λ k. run k s (replies_of u.events ++ (u.reply ∷ left t))) steps ∙ sym (goes _ _) ∙ (u.did).goes (u.reply ∷ left t) (k - u.used) ∙ ap (after u.events) on.1 in
+    ap (run k s) all ∙ ap (λ k. run k s (replies_of u.events ++ (u.reply ∷ left t))) steps ∙ sym (goes _ _) ∙ (u.did).goes (u.reply ∷ left t) (k - u.used) ∙ ap (after u.events) on.1 in
     TookFront-on old u.put new (trace_text u.events) (event_line u.request u.reply) (text_of on.0) (text_of (run k s listed)) (u.did).took u.front
-        (ap text_of goes_so ∙ text_split u.events u.request u.reply on.0)
+    (ap text_of goes_so ∙ text_split u.events u.request u.reply on.0)

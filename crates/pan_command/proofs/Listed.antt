@@ -1,10 +1,8 @@
 -- The replies that a reply list gives in a run are those that it lists.
-use Rattle.std.proofs.Common.{◌≡◌, ℕ, ◌+◌, ◌<◌, ◌≤◌, zero, suc, refl, sym, ap, ◌∙◌, subst, List, [], ◌∷◌, ◌++◌, append_assoc, map, length, drop, get_or, Option, Some, None, Bool, true, false, arith}
-use Rattle.std.specs.Prelude.{IsTrue, nat_eq, ◌&&◌, min, slice_get, if◌then◌else◌}
-use Rattle.std.specs.List.{list_all}
-use Rattle.std.specs.Prelude.{nat_lt}
+use Rattle.std.proofs.Common.{◌≡◌, ℕ, ◌+◌, ◌<◌, zero, suc, refl, sym, ap, ◌∙◌, subst, List, [], ◌∷◌, ◌++◌, map, length, drop, Option, Some, None, Bool, true, false, arith}
+use Rattle.std.specs.Prelude.{nat_eq, min, slice_get, if◌then◌else◌}
 use Rattle.std.proofs.lemmas.Bool.{false≢true}
-use Rattle.pan_base.specs.Events.{Asked, Load, Store, Foreign, Replied, Value, Done, Bytes, Stop, Event, Ending, Exit, Uncaught, Stopped, Asks, Spent, Stack, Fault, Fails, Behaviour, Fits}
+use Rattle.pan_base.specs.Events.{Asked, Load, Store, Foreign, Replied, Bytes, Stop, Event, Ending, Exit, Uncaught, Stopped, Asks, Spent, Stack, Fault, Fails, Behaviour, Fits}
 use Rattle.pan_port.specs.Counts.{counts_after}
 use Rattle.pan_port.specs.Device.{Given, Gave, Silent}
 use Rattle.pan_port.specs.Drive.{replies_of, Answered, Closes, AreGiven}

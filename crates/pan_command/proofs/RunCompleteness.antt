@@ -1,5 +1,5 @@
 -- How a run with lawful words ends where no fault of the outside came.
-use Rattle.std.proofs.Common.{◌≡◌, ℕ, List, [], ◌∷◌, Option, Some, None, Ok, Err, refl, sym, ap, ◌∙◌, subst, inl, inr}
+use Rattle.std.proofs.Common.{◌≡◌, ℕ, List, Some, None, Ok, Err, refl, sym, ap, ◌∙◌, subst, inl, inr}
 use Rattle.std.specs.Prelude.{◌⊎◌, codes}
 use Rattle.pan_base.specs.Events.{Replied, Behaviour, end_of}
 use Rattle.pan_base.specs.Files.{Files}

@@ -1,6 +1,6 @@
 -- How a run ends after its image was read, and after its replies were.
-use Rattle.std.proofs.Common.{◌≡◌, ℕ, ◌≤◌, List, [], ◌++◌, Option, Some, None, Result, Ok, Err, refl, sym, ap, ◌∙◌, subst, inl, inr, arith}
-use Rattle.std.specs.Prelude.{◌⊎◌, codes}
+use Rattle.std.proofs.Common.{◌≡◌, ℕ, ◌≤◌, List, ◌++◌, Option, Some, None, Ok, Err, refl, sym, ◌∙◌, subst, inl, inr, arith}
+use Rattle.std.specs.Prelude.{◌⊎◌}
 use Rattle.pan_base.specs.Causes.{Rose}
 use Rattle.pan_base.specs.Events.{Replied, end_of}
 use Rattle.pan_base.specs.Files.{Files, NoneChanged}
@@ -13,7 +13,7 @@ use Rattle.reply_file.specs.Replies.{replies_of_file}
 use Rattle.pan_command.specs.declared.status.Status.{Status}
 use Rattle.pan_command.specs.declared.status.Status.TheVariants as status
 use Rattle.pan_command.specs.Outside.{Outside, Holds, Lacks}
-use Rattle.pan_command.specs.Run.{ImageRead, ScriptRead, FileUnread, ScriptRefused, Ran, RunCases, script_line}
+use Rattle.pan_command.specs.Run.{ImageRead, ScriptRead, RunCases}
 use Rattle.pan_command.specs.Going.{GoesOut, behaviour_of}
 use Rattle.pan_command.specs.Loading.{IsQuiet, ScriptCases}
 use Rattle.pan_command.proofs.Going.{rose_after}

@@ -1,9 +1,8 @@
 -- A machine at its start.
-use Rattle.std.proofs.Common.{◌≡◌, ℕ, ◌+◌, ◌%◌, ◌<◌, ◌≤◌, zero, suc, refl, sym, ap, ◌∙◌, subst, List, [], ◌∷◌, length, get_or, replicate, Option, Some, None, true, arith}
+use Rattle.std.proofs.Common.{◌≡◌, ℕ, ◌%◌, ◌<◌, ◌≤◌, zero, suc, sym, ap, ◌∙◌, subst, List, length, get_or, replicate, None, arith}
 use Rattle.std.proofs.lemmas.List.{length-replicate}
-use Rattle.pan_base.specs.Events.{Replied, Behaviour}
-use Rattle.pan_port.specs.Asker.{Meaning}
-use Rattle.riscv_isa.specs.Step.{State, Config, Runs, Waits, Over}
+use Rattle.pan_base.specs.Events.{Replied}
+use Rattle.riscv_isa.specs.Step.{State, Runs}
 use Rattle.riscv_isa.specs.Machine.{machine, booted, IsLawfulMemory}
 use Rattle.image_file.specs.Parts.{ImageParts}
 use Rattle.riscv_machine.specs.View.{config_in, ended_in}
@@ -11,8 +10,7 @@ use Rattle.riscv_machine.specs.Machine.{state_of, config_of, meaning_of}
 use Rattle.riscv_machine.specs.declared.machine.Machine.{Machine}
 use Rattle.riscv_machine.specs.declared.machine.Phase.{Phase}
 use Rattle.riscv_machine.specs.declared.machine.Phase.TheVariants as phase
-use Rattle.pan_command.specs.Run.{run_memory, run_stack}
-use Rattle.pan_command.specs.Going.{IsStarted}
+use Rattle.pan_command.specs.Run.{run_stack}
 
 zeros_bytes : (n i : ℕ) → get_or (replicate n 0) i 0 < 256
 zeros_bytes zero zero = omega arith

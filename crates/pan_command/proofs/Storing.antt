@@ -1,9 +1,8 @@
 -- What the writing of a faithful image leaves, after the source was read.
-use Rattle.std.proofs.Common.{◌≡◌, ◌≢◌, ℕ, ◌+◌, ◌<◌, List, length, take, Option, Some, None, refl, sym, ap, ◌∙◌, subst, inl, inr}
+use Rattle.std.proofs.Common.{◌≡◌, ℕ, ◌<◌, List, take, Option, Some, None, refl, ◌∙◌, subst, inl, inr}
 use Rattle.std.specs.Prelude.{◌⊎◌}
-use Rattle.pan_base.specs.declared.file_error.FileError.{FileError}
 use Rattle.pan_base.specs.Causes.{Rose}
-use Rattle.pan_base.specs.Files.{Files, NoneChanged, Stored, StoredBelow, OthersSame}
+use Rattle.pan_base.specs.Files.{Files, NoneChanged, Stored, StoredBelow}
 use Rattle.pan_base.specs.Sinks.{Took, TookFront}
 use Rattle.pan_tree.specs.declared.program.Program.{Program}
 use Rattle.pan_agree.specs.Faithful.{Faithful}

@@ -1,8 +1,7 @@
 -- A run of the machine depends on the replies that it used alone: what may stand behind them is another list.
-use Rattle.std.proofs.Common.{◌≡◌, ℕ, zero, suc, refl, sym, ap, ◌∙◌, subst, List, [], ◌∷◌, ◌++◌, map, Bool, true, false}
+use Rattle.std.proofs.Common.{◌≡◌, ℕ, zero, suc, refl, sym, ap, ◌∙◌, subst, List, [], ◌∷◌, ◌++◌, Bool, true, false}
 use Rattle.std.specs.Prelude.{IsTrue}
-use Rattle.std.proofs.lemmas.Bool.{false≢true}
-use Rattle.pan_base.specs.Events.{Asked, Replied, Event, Ending, Stopped, Asks, Spent, Behaviour, only, before, fits, Fits}
+use Rattle.pan_base.specs.Events.{Asked, Replied, Event, Ending, Stopped, Asks, Behaviour, only, before, fits, Fits}
 use Rattle.riscv_isa.specs.Step.{State, Config, Runs, Waits, Over, step, request_of, resumed}
 use Rattle.riscv_isa.specs.Machine.{taken, continue, run}
 use Rattle.pan_port.specs.Drive.{replies_of}

@@ -11,7 +11,7 @@ use Rattle.reply_file.specs.Replies.{replies_of_file}
 use Rattle.pan_command.specs.declared.status.Status.{Status}
 use Rattle.pan_command.specs.declared.status.Status.TheVariants as status
 use Rattle.pan_command.specs.Outside.{Outside, Holds}
-use Rattle.pan_command.specs.Run.{FileUnread, ImageRead, NoImage, ScriptRefused}
+use Rattle.pan_command.specs.Run.{FileUnread, NoImage, ScriptRefused}
 
 -- nothing was put, no write failed, and the count of failed reads didn't fall
 pub record IsQuiet (before after : Outside) : Type 0 where

@@ -1,5 +1,5 @@
 -- What the action `run` leaves, by how it ends.
-use Rattle.std.specs.Prelude.{◌≡◌, ◌⊎◌, ℕ, List, [], ◌++◌, Option, Some, None, Result, Ok, Err, codes, replicate}
+use Rattle.std.specs.Prelude.{◌≡◌, ◌⊎◌, ℕ, List, [], ◌++◌, Option, Some, Ok, Err, codes, replicate}
 use Rattle.std.specs.Fmt.{decimal}
 use Rattle.pan_base.specs.Causes.{Rose}
 use Rattle.pan_base.specs.Events.{Replied, Behaviour, end_of}

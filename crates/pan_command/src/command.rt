@@ -91,8 +91,7 @@ fn names_of<'x>(words: &'x [Text], action: &str) -> Option<(&'x str, &'x str)>
 {
     match words {
         [name, first, second]
-            if name.as_str() == action && is_name(first.as_str()) && is_name(second.as_str()) =>
-        {
+            if name.as_str() == action && is_name(first.as_str()) && is_name(second.as_str()) => {
             Some((first.as_str(), second.as_str()))
         }
         _ => None,

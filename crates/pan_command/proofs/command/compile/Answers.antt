@@ -1,4 +1,4 @@
-use Rattle.std.proofs.Common.{subst, ℕ, List, None}
+use Rattle.std.proofs.Common.{ℕ, List, None}
 use Rattle.pan_tree.specs.declared.program.Program.{Program}
 use Rattle.pan_agree.specs.Faithful.{Faithful}
 use Rattle.pan_command.specs.Served.{IsServed}

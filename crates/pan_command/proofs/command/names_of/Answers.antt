@@ -1,4 +1,4 @@
-use Rattle.std.proofs.Common.{rules, sym, ◌≡◌, ◌∷◌, [], List, ℕ}
+use Rattle.std.proofs.Common.{rules, sym, ◌≡◌, ◌∷◌, []}
 use Rattle.std.specs.Prelude.{IsTrue}
 use Rattle.pan_command.specs.Words.{is_plain}
 use Rattle.pan_command.proofs.WordLemmas.{three}

@@ -1,4 +1,4 @@
-use Rattle.std.proofs.Common.{◌≡◌, subst, inr, List, ℕ, Err}
+use Rattle.std.proofs.Common.{◌≡◌, subst, inr, Err}
 use Rattle.pan_base.specs.Causes.{Rose}
 use Rattle.pan_base.specs.Sinks.{SinkState, Took, TookFront}
 use Rattle.reply_file.specs.Replies.{Refusal, replies_of_file}

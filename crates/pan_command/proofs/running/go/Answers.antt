@@ -15,8 +15,7 @@ returns-in-Ok-drive g c =
     let ran = c.in-Ok-drive.ensures.ran in
     let start = c.in-Ok.ensures.starts in
     let whole = all_left c.new-device.result c.args.replies c.new-device.ensures.0 c.new-device.ensures.1 in
-    let told = behaves 1000000 _ _ ran.replies _ _ _ (start.go ran.replies 1000000) whole (ran.given start.ended) in
-    (
+    let told = behaves 1000000 _ _ ran.replies _ _ _ (start.go ran.replies 1000000) whole (ran.given start.ended) in (
       rose_after _ _ _ c.in-Ok-drive.ensures.keeps.later_faults c.in-Err.ensures.cause.failed,
       puts_front _ _ c.in-Ok-drive.end _ _ _ told ran.ends ran.took c.in-Err.ensures.took,
     )
