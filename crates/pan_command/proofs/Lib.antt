@@ -1,4 +1,10 @@
 pub mod Completeness
+pub mod Going
+pub mod Listed
+pub mod RunCompleteness
+pub mod RunEnding
+pub mod Starting
 pub mod Storing
+pub mod UsedReplies
 pub mod WordLemmas
 pub mod WrongImage

@@ -1,9 +1,8 @@
 -- What the writing of a faithful image leaves, after the source was read.
-use Rattle.std.proofs.Common.{◌≡◌, ◌≢◌, ℕ, ◌+◌, ◌<◌, List, length, take, Option, Some, None, Result, Ok, refl, sym, ap, ◌∙◌, subst, inl, inr}
+use Rattle.std.proofs.Common.{◌≡◌, ℕ, ◌<◌, List, take, Option, Some, None, refl, ◌∙◌, subst, inl, inr}
 use Rattle.std.specs.Prelude.{◌⊎◌}
-use Rattle.pan_base.specs.declared.file_error.FileError.{FileError}
 use Rattle.pan_base.specs.Causes.{Rose}
-use Rattle.pan_base.specs.Files.{Files, Reads, NoneChanged, Stored, StoredBelow, OthersSame}
+use Rattle.pan_base.specs.Files.{Files, NoneChanged, Stored, StoredBelow}
 use Rattle.pan_base.specs.Sinks.{Took, TookFront}
 use Rattle.pan_tree.specs.declared.program.Program.{Program}
 use Rattle.pan_agree.specs.Faithful.{Faithful}
@@ -12,10 +11,6 @@ use Rattle.pan_command.specs.declared.status.Status.TheVariants as status
 use Rattle.pan_command.specs.Served.{IsServed}
 use Rattle.pan_command.specs.Outside.{Outside, Holds}
 use Rattle.pan_command.specs.Compile.{Built, CompileEnds, StoreEnds}
-
-pub held : (files : Option Files) (name bytes : List ℕ) → Reads files name (Ok bytes) → Holds files name bytes
-held None name bytes h = tt
-held (Some f) name bytes h = h
 
 stored_after : (a b c : Option Files) (name bytes : List ℕ) → NoneChanged a b → Stored b c name bytes → Stored a c name bytes
 stored_after None None None name bytes same stored = tt
@@ -34,9 +29,9 @@ stored_below_after limit None (Some g) c name bytes same stored = absurd same
 stored_below_after limit (Some f) None c name bytes same stored = absurd same
 stored_below_after limit (Some f) (Some g) None name bytes same stored = absurd stored
 
-module _ (before mid after : Outside) (source name bytes : List ℕ) (image : List ℕ) (read : Reads (before.files).files source (Ok bytes)) (built : (program : Program) × IsServed bytes program × Faithful program image None) (same : NoneChanged (before.files).files (mid.files).files) (writes : (mid.files).failed_writes ≡ (before.files).failed_writes) (out : mid.out ≡ before.out) where
+module _ (before mid after : Outside) (source name bytes : List ℕ) (image : List ℕ) (held : Holds (before.files).files source bytes) (built : (program : Program) × IsServed bytes program × Faithful program image None) (same : NoneChanged (before.files).files (mid.files).files) (writes : (mid.files).failed_writes ≡ (before.files).failed_writes) (out : mid.out ≡ before.out) where
   abbrev made : Built before source
-  made = record { bytes = bytes; held = held _ _ _ read; program = built.0; served = built.1; image = image; bound = None; unbounded = refl; faithful = built.2 }
+  made = record { bytes = bytes; held = held; program = built.0; served = built.1; image = image; bound = None; unbounded = refl; faithful = built.2 }
 
   took : (line : List ℕ) → Took mid.out after.out line → Took before.out after.out line
   took line h = subst (λ o. Took o after.out line) out h
@@ -50,6 +45,9 @@ module _ (before mid after : Outside) (source name bytes : List ℕ) (image : Li
   pub compile_ends : (s : Status) → StoreEnds name image mid after s → CompileEnds source name before after s
   compile_ends status.Done h = record { built = made; stored = stored_after _ _ _ _ _ same h.0; line = took _ h.1 }
   compile_ends status.Usage h = absurd h
+  compile_ends status.NoImage h = absurd h
+  compile_ends status.NoScript h = absurd h
+  compile_ends (status.Ran end) h = absurd h
   compile_ends status.Unread h = absurd h
   compile_ends status.Refused h = absurd h
   compile_ends status.Unwritten h = record { built = made; cause = wrote h.0; stored = stored_below_after _ _ _ _ _ _ same h.1; line = took _ h.2 }

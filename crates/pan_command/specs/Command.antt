@@ -1,5 +1,5 @@
 -- How a call of the program ends.
-use Rattle.std.specs.Prelude.{◌≡◌, ◌⊎◌, ℕ, List, codes}
+use Rattle.std.specs.Prelude.{◌⊎◌, ℕ, List, codes}
 use Rattle.pan_base.specs.Causes.{Rose}
 use Rattle.pan_base.specs.Files.{NoneChanged}
 use Rattle.pan_base.specs.Sinks.{Took, TookFront}
@@ -8,6 +8,7 @@ use Rattle.pan_command.specs.declared.status.Status.TheVariants as status
 use Rattle.pan_command.specs.Outside.{Outside}
 use Rattle.pan_command.specs.Words.{AreLawful, AreUnlawful}
 use Rattle.pan_command.specs.Compile.{CompileEnds}
+use Rattle.pan_command.specs.Run.{RunEnds}
 
 -- how a call with unlawful words ends
 abbrev pub UsageEnds : Outside → Outside → Status → Type 0
@@ -20,4 +21,5 @@ UsageEnds before after _ = ⊥
 abbrev pub Ends : List (List ℕ) → Outside → Outside → Status → Type 0
 Ends words before after s =
     (AreUnlawful words × UsageEnds before after s)
-    ⊎ ((source : List ℕ) × (image : List ℕ) × AreLawful words source image × CompileEnds source image before after s)
+    ⊎ (((source : List ℕ) × (image : List ℕ) × AreLawful (codes "compile") words source image × CompileEnds source image before after s)
+    ⊎ ((image : List ℕ) × (script : List ℕ) × AreLawful (codes "run") words image script × RunEnds image script before after s))

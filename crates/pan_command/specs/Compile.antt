@@ -74,12 +74,12 @@ pub record Starved (before after : Outside) (source image : List ℕ) : Type 0 w
 -- how `compile` ends
 abbrev pub CompileEnds : List ℕ → List ℕ → Outside → Outside → Status → Type 0
 CompileEnds source image before after status.Done = Compiled (Took before.out after.out) before after source image
-CompileEnds source image before after status.Usage = ⊥
 CompileEnds source image before after status.Unread = Unread (Took before.out after.out) before after source
 CompileEnds source image before after status.Refused = Refused (Took before.out after.out) before after source
 CompileEnds source image before after status.Unwritten = Unwritten (Took before.out after.out) before after source image
 CompileEnds source image before after status.Unput = Unput before after source image
 CompileEnds source image before after status.NoMemory = Starved before after source image
+CompileEnds source image before after _ = ⊥
 
 -- how the writing of an image with no bound ends
 abbrev pub StoreEnds : List ℕ → List ℕ → Outside → Outside → Status → Type 0

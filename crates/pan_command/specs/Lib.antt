@@ -3,5 +3,8 @@ pub mod Served
 pub mod Words
 pub mod Outside
 pub mod Compile
+pub mod Run
+pub mod Going
+pub mod Loading
 pub mod Command
 pub mod Sample

@@ -6,12 +6,12 @@ abbrev pub is_plain : List ℕ → Bool
 is_plain [] = true
 is_plain (b ∷ bs) = not (b == 45)
 
--- the words of the action `compile`, with the names of the source and of the image
-pub record AreLawful (words : List (List ℕ)) (source image : List ℕ) : Type 0 where
-  pub all : words ≡ codes "compile" ∷ source ∷ image ∷ []
-  pub plain_source : IsTrue (is_plain source)
-  pub plain_image : IsTrue (is_plain image)
+-- the words are an action's name and two names of files
+pub record AreLawful (action : List ℕ) (words : List (List ℕ)) (first second : List ℕ) : Type 0 where
+  pub all : words ≡ action ∷ first ∷ second ∷ []
+  pub plain_first : IsTrue (is_plain first)
+  pub plain_second : IsTrue (is_plain second)
 
 -- the words are those of no action
 abbrev pub AreUnlawful : List (List ℕ) → Type 0
-AreUnlawful words = (source image : List ℕ) → ¬ AreLawful words source image
+AreUnlawful words = (first second : List ℕ) → (¬ AreLawful (codes "compile") words first second) × (¬ AreLawful (codes "run") words first second)

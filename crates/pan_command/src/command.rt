@@ -1,30 +1,31 @@
 //! The top call.
 
-ghost use Rattle.std.specs.Prelude.{◌≡◌, ◌++◌, ◌⊎◌, List, ℕ, codes, Some, None, IsTrue, ◌↔◌};
-ghost use Rattle.pan_base.specs.Causes.{HasCause, Rose};
+ghost use Rattle.std.specs.Prelude.{◌≡◌, ◌⊎◌, List, ℕ, codes, Some, None, Ok, IsTrue, ◌↔◌, IfSome, IfNone};
+ghost use Rattle.pan_base.specs.Causes.{Rose};
+ghost use Rattle.pan_base.specs.Events.{Replied, end_of};
 ghost use Rattle.pan_base.specs.Files.{Files, NoneChanged};
-ghost use Rattle.pan_base.specs.Sinks.{PutsAll, Took};
+ghost use Rattle.pan_base.specs.Sinks.{Took};
 ghost use Rattle.pan_tree.specs.declared.program.Program.{Program};
 ghost use Rattle.pan_command.specs.Served.{IsServed, IsRefused};
-ghost use Rattle.pan_command.specs.Status.{code};
+ghost use Rattle.pan_command.specs.Status.{code, end_code, IsCompileCode};
 ghost use Rattle.pan_command.specs.Words.{is_plain, AreLawful, AreUnlawful};
 ghost use Rattle.pan_command.specs.Outside.{outside, NoFault};
 ghost use Rattle.pan_command.specs.Compile.{CompileEnds, StoreEnds, Compiled, Unread, Refused, Starved};
+ghost use Rattle.pan_command.specs.Run.{RunEnds};
+ghost use Rattle.pan_command.specs.Going.{behaviour_of};
 ghost use Rattle.pan_command.specs.Command.{Ends};
+ghost use Rattle.riscv_isa.specs.Image.{ImageOf};
+ghost use Rattle.image_file.specs.Parts.{ImageParts};
+ghost use Rattle.reply_file.specs.Replies.{replies_of_file};
 ghost use Rattle.pan_command.specs.declared.status.Status.{Status};
 
 use crate::building::build;
+use crate::lines::put_line;
+use crate::loading::read_file;
+use crate::running::run;
 use crate::status::Status;
-use pan_base::{FileError, NoMemory, Sink, SinkFault, Text, Workspace, put_all, put_each};
+use pan_base::{FileError, NoMemory, Sink, SinkFault, Text, Workspace, put_all};
 use std::alloc::Global;
-
-/// Puts a word, a name and a line feed.
-fn put_line<'x, O: Sink>(out: &mut O, word: &'x str, name: &'x str) -> Result<(), SinkFault>
-    ensures took { PutsAll (O.state out.old) (O.state out.new) result (word.now ++ name.now ++ codes "\n") }
-    ensures cause { HasCause (O.state out.old).faults (O.state out.new).faults result }
-{
-    put_each(out, &[word.as_bytes(), name.as_bytes(), b"\n"])
-}
 
 /// Writes the image that was built, and puts the line of its bound.
 fn store<W: Workspace, O: Sink>(
@@ -59,15 +60,9 @@ fn compile<W: Workspace, O: Sink>(
 ) -> Status
     ensures { CompileEnds source.now image.now (outside (W.state files.old) (O.state out.old)) (outside (W.state files.new) (O.state out.new)) result }
 {
-    let bytes = match files.read(alloc, source) {
+    let bytes = match read_file(alloc, source, files, out) {
         Ok(bytes) => bytes,
-        Err(FileError::NoMemory) => return Status::NoMemory,
-        Err(FileError::Missing | FileError::Fault) => {
-            return match put_line(out, "read ", source) {
-                Ok(()) => Status::Unread,
-                Err(SinkFault) => Status::Unput,
-            };
-        }
+        Err(status) => return status,
     };
     match build(alloc, bytes.as_slice()) {
         Ok(Some(built)) => store(alloc, image, built.as_slice(), files, out),
@@ -89,69 +84,100 @@ fn is_name(word: &str) -> bool
     }
 }
 
+/// The two names that follow the action, if the words are the action's.
+fn names_of<'x>(words: &'x [Text], action: &str) -> Option<(&'x str, &'x str)>
+    ensures lawful { IfSome result (λ names. AreLawful action.now words.now names.0.now names.1.now) }
+    ensures unlawful { IfNone result ((first second : List ℕ) → ¬ AreLawful action.now words.now first second) }
+{
+    match words {
+        [name, first, second]
+            if name.as_str() == action && is_name(first.as_str()) && is_name(second.as_str()) => {
+            Some((first.as_str(), second.as_str()))
+        }
+        _ => None,
+    }
+}
+
 /// Does what the words ask for.
 fn act<W: Workspace, O: Sink>(alloc: Global, words: &[Text], files: &mut W, out: &mut O) -> Status
     ensures { Ends words.now (outside (W.state files.old) (O.state out.old)) (outside (W.state files.new) (O.state out.new)) result }
 {
-    match words {
-        [action, source, image]
-            if action.as_str() == "compile"
-                && is_name(source.as_str())
-                && is_name(image.as_str()) => {
-            compile(alloc, source.as_str(), image.as_str(), files, out)
-        }
-        _ => match put_all(out, b"usage\n") {
-            Ok(()) => Status::Usage,
-            Err(SinkFault) => Status::Unput,
-        },
+    if let Some((source, image)) = names_of(words, "compile") {
+        return compile(alloc, source, image, files, out);
+    }
+    if let Some((image, script)) = names_of(words, "run") {
+        return run(alloc, image, script, files, out);
+    }
+    match put_all(out, b"usage\n") {
+        Ok(()) => Status::Usage,
+        Err(SinkFault) => Status::Unput,
     }
 }
 
 /// The top call: does what `words`, the command line without the program's own name, ask for, over these files and this
 /// sink, and answers the exit status.
 ///
-/// `compile SRC IMG` reads the source SRC and writes its image to IMG. It answers
-/// - 0: the image is written, and `bound none` is put;
+/// `compile SRC IMG` reads the source SRC and writes its image to IMG. `run IMG SCRIPT` reads the image IMG and the reply
+/// file SCRIPT, and runs the one over the other for at most 1,000,000 instructions, on 65,536 bytes of local memory, which
+/// are zero, and 65,536 bytes of stack. The status is
+/// - 0: the image is written, and `bound none` is put; or the run ended by an exit, and its lines are put;
 /// - 2: the words are no action's, and `usage` is put. The names may not begin with `-`;
-/// - 3: SRC could not be read, and `read SRC` is put;
+/// - 3: a file could not be read, and `read NAME` is put;
 /// - 4: the source is refused, and `0 Unsupported` is put: it has more than 1,048,576 bytes, isn't a straight-line source,
 ///   or weighs more than 16,384;
+/// - 5: the bytes of IMG are no image, and `image CAUSE` is put;
+/// - 6: a line of SCRIPT fits no rule, and `script LINE CAUSE` is put for the first;
 /// - 7: IMG could not be written, and `write IMG` is put, or a line could not be put;
-/// - 8: there was no memory, and nothing is put.
+/// - 8: there was no memory, and nothing is put;
+/// - 10 to 15: the run ended as spent, by the stack, stopped, by a fault, uncaught, or asking, and its lines are put.
 ///
 /// Nothing is written to IMG before the whole image is built, and no memory is taken after it is written.
 pub fn panc<W: Workspace, O: Sink>(alloc: Global, words: &[Text], files: &mut W, out: &mut O) -> u8
     // How the call ended, and what it left: one case for each way to end.
     ensures ends { (s : Status) × (result ≡ code s)
         × Ends words.now (outside (W.state files.old) (O.state out.old)) (outside (W.state files.new) (O.state out.new)) s }
-    // The image file has an image that is faithful to the program of the source, and the line of its bound is put.
-    ensures compiled { result ≡ 0 → (source : List ℕ) × (image : List ℕ) × AreLawful words.now source image
-        × Compiled (Took (O.state out.old) (O.state out.new)) (outside (W.state files.old) (O.state out.old)) (outside (W.state files.new) (O.state out.new)) source image }
     // Words of no action, and no file changed. They give 2 always, unless the line could not be put.
     ensures usage { result ≡ 2 → AreUnlawful words.now × NoneChanged (W.state files.old).files (W.state files.new).files × Took (O.state out.old) (O.state out.new) (codes "usage\n") }
     ensures usage_always { AreUnlawful words.now → (result ≡ 2) ⊎ (result ≡ 7) }
-    // A read of the source failed, or there is no such file where files are told; no file changed.
-    ensures unread { result ≡ 3 → (source : List ℕ) × (image : List ℕ) × AreLawful words.now source image
-        × Unread (Took (O.state out.old) (O.state out.new)) (outside (W.state files.old) (O.state out.old)) (outside (W.state files.new) (O.state out.new)) source }
-    // The source is refused, and no file changed.
-    ensures refused { result ≡ 4 → (source : List ℕ) × (image : List ℕ) × AreLawful words.now source image
-        × Refused (Took (O.state out.old) (O.state out.new)) (outside (W.state files.old) (O.state out.old)) (outside (W.state files.new) (O.state out.new)) source }
     // A write or a put failed.
     ensures failed { result ≡ 7 → Rose (W.state files.old).failed_writes (W.state files.new).failed_writes ⊎ Rose (O.state out.old).faults (O.state out.new).faults }
+
+    // The image file has an image that is faithful to the program of the source, and the line of its bound is put.
+    ensures compiled { (source image : List ℕ) → AreLawful (codes "compile") words.now source image → result ≡ 0
+        → Compiled (Took (O.state out.old) (O.state out.new)) (outside (W.state files.old) (O.state out.old)) (outside (W.state files.new) (O.state out.new)) source image }
+    // A read of the source failed, or there is no such file where files are told; no file changed.
+    ensures unread { (source image : List ℕ) → AreLawful (codes "compile") words.now source image → result ≡ 3
+        → Unread (Took (O.state out.old) (O.state out.new)) (outside (W.state files.old) (O.state out.old)) (outside (W.state files.new) (O.state out.new)) source }
+    // The source is refused, and no file changed.
+    ensures refused { (source image : List ℕ) → AreLawful (codes "compile") words.now source image → result ≡ 4
+        → Refused (Took (O.state out.old) (O.state out.new)) (outside (W.state files.old) (O.state out.old)) (outside (W.state files.new) (O.state out.new)) source }
     // Nothing is put, and at most a prefix of a faithful image, not all of it, stands in the image file.
-    ensures starved { result ≡ 8 → (source : List ℕ) × (image : List ℕ) × AreLawful words.now source image
-        × Starved (outside (W.state files.old) (O.state out.old)) (outside (W.state files.new) (O.state out.new)) source image }
+    ensures starved { (source image : List ℕ) → AreLawful (codes "compile") words.now source image → result ≡ 8
+        → Starved (outside (W.state files.old) (O.state out.old)) (outside (W.state files.new) (O.state out.new)) source image }
+    // `compile` gives no other status but 7.
+    ensures compile_only { (source image : List ℕ) → AreLawful (codes "compile") words.now source image → IsCompileCode result }
     // Where no fault of the outside came, each source that is served compiles, each other one is refused, and a file that
     // is missing gives 3, want of memory aside.
-    ensures complete { (source image bytes : List ℕ) (program : Program) (all : Files) → AreLawful words.now source image
+    ensures complete { (source image bytes : List ℕ) (program : Program) (all : Files) → AreLawful (codes "compile") words.now source image
         → (W.state files.old).files ≡ Some all → all source ≡ Some bytes → IsServed bytes program
         → NoFault (outside (W.state files.old) (O.state out.old)) (outside (W.state files.new) (O.state out.new)) → (result ≡ 0) ⊎ (result ≡ 8) }
-    ensures refused_always { (source image bytes : List ℕ) (all : Files) → AreLawful words.now source image
+    ensures refused_always { (source image bytes : List ℕ) (all : Files) → AreLawful (codes "compile") words.now source image
         → (W.state files.old).files ≡ Some all → all source ≡ Some bytes → IsRefused bytes
         → NoFault (outside (W.state files.old) (O.state out.old)) (outside (W.state files.new) (O.state out.new)) → (result ≡ 4) ⊎ (result ≡ 8) }
-    ensures missing_always { (source image : List ℕ) (all : Files) → AreLawful words.now source image
+    ensures missing_always { (source image : List ℕ) (all : Files) → AreLawful (codes "compile") words.now source image
         → (W.state files.old).files ≡ Some all → all source ≡ None
         → NoFault (outside (W.state files.old) (O.state out.old)) (outside (W.state files.new) (O.state out.new)) → (result ≡ 3) ⊎ (result ≡ 8) }
+
+    // A run ends in one of its ways, and no file changes.
+    ensures runs { (image script : List ℕ) → AreLawful (codes "run") words.now image script → (s : Status) × (result ≡ code s)
+        × RunEnds image script (outside (W.state files.old) (O.state out.old)) (outside (W.state files.new) (O.state out.new)) s }
+    // Where no fault of the outside came, any image runs over any reply file to the status of its end, want of memory aside.
+    ensures run_complete { (image script image_bytes script_bytes : List ℕ) (parts : ImageParts) (replies : List Replied) (all : Files)
+        → AreLawful (codes "run") words.now image script → (W.state files.old).files ≡ Some all
+        → all image ≡ Some image_bytes → ImageOf image_bytes parts.code parts.names parts.bound
+        → all script ≡ Some script_bytes → replies_of_file script_bytes ≡ Ok replies
+        → NoFault (outside (W.state files.old) (O.state out.old)) (outside (W.state files.new) (O.state out.new))
+        → (result ≡ end_code (end_of (behaviour_of parts replies).ending)) ⊎ (result ≡ 8) }
 {
     act(alloc, words, files, out).code()
 }

@@ -4,6 +4,9 @@
 mod building;
 mod command;
 mod laws;
+mod lines;
+mod loading;
+mod running;
 mod status;
 #[cfg(test)]
 mod tests;

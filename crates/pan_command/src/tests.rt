@@ -145,3 +145,79 @@ fn meets_faults(rt: HostRuntime) -> Result<(), Fail> {
     assert_eq!(rt; bytes_of(alloc, &mut files, "a.img")?.as_slice(), image);
     Ok(())
 }
+
+/// Files with `a.img` and `a.rep`.
+fn run_files(alloc: Global, image: &[u8], script: &str) -> Result<MemFiles, NoMemory> {
+    let mut files = List::new(alloc);
+    let image_name = Text::from_str(alloc, "a.img")?;
+    files.push((image_name, Blob::from_slice(alloc, image)?))?;
+    let script_name = Text::from_str(alloc, "a.rep")?;
+    files.push((script_name, Blob::from_slice(alloc, script.as_bytes())?))?;
+    MemFiles::new(alloc, files, List::new(alloc))
+}
+
+#[test]
+fn runs(rt: HostRuntime) -> Result<(), Fail> {
+    let alloc = rt.alloc();
+    let first: &[u8] = &FIRST_IMAGE;
+    let short: &[u8] = &FIRST_IMAGE[..63];
+    let no_header: &[u8] = &FIRST_IMAGE[..20];
+    let empty: &[u8] = b"";
+    let other: &[u8] = b"PNK2";
+    let stored = "st64 0x0000000040000000 0x0000000000000005\nexit 0x0000000000000007\n";
+    for (line, image, script, text, status) in [
+        ("run a.img a.rep", first, "done", stored, 0),
+        (
+            "run a.img a.rep",
+            first,
+            "# a comment\n\ndone\nstop\n",
+            stored,
+            0,
+        ),
+        ("run a.img a.rep", first, "", "asks\n", 15),
+        ("run a.img a.rep", first, "stop", "stopped\n", 12),
+        ("run a.img a.rep", first, "value 5", "stopped\n", 12),
+        ("run a.img a.rep", short, "done", "image Short\n", 5),
+        ("run a.img a.rep", no_header, "done", "image Short\n", 5),
+        ("run a.img a.rep", empty, "done", "image Short\n", 5),
+        ("run a.img a.rep", other, "done", "image Magic\n", 5),
+        (
+            "run a.img a.rep",
+            first,
+            "done\nsay 5\n",
+            "script 2 Word\n",
+            6,
+        ),
+        ("run a.img a.rep", first, "value", "script 1 Count\n", 6),
+        ("run a.img a.rep", first, "value x", "script 1 Number\n", 6),
+        ("run b.img a.rep", first, "done", "read b.img\n", 3),
+        ("run a.img b.rep", first, "done", "read b.rep\n", 3),
+        ("run a.img", first, "done", "usage\n", 2),
+        ("run a.img -a.rep", first, "done", "usage\n", 2),
+    ] {
+        let words = words_of(alloc, line)?;
+        let mut files = run_files(alloc, image, script)?;
+        let mut out = MemSink::new(alloc, 100, List::new(alloc))?;
+        assert_eq!(rt;
+            panc(alloc, words.as_slice(), &mut files, &mut out),
+            status,
+            "{line}: {script}"
+        );
+        assert_eq!(rt; out.bytes(), text.as_bytes(), "{line}: {script}");
+        assert_eq!(rt;
+            bytes_of(alloc, &mut files, "a.img")?.as_slice(),
+            image,
+            "{line}: {script}"
+        );
+    }
+
+    // The line of the event can't be put, nor that of the end, and what was put stays.
+    let words = words_of(alloc, "run a.img a.rep")?;
+    for room in [5, 50] {
+        let mut files = run_files(alloc, first, "done")?;
+        let mut out = MemSink::new(alloc, room, List::new(alloc))?;
+        assert_eq!(rt; panc(alloc, words.as_slice(), &mut files, &mut out), 7);
+        assert!(rt; stored.as_bytes().starts_with(out.bytes()));
+    }
+    Ok(())
+}

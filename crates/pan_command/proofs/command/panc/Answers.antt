@@ -1,4 +1,6 @@
-use Rattle.pan_command.proofs.Completeness.{completes, refuses, misses}
+use Rattle.std.proofs.Common.{sym, ◌∙◌}
+use Rattle.pan_command.proofs.Completeness.{compiles_only, compiled_by, starved_by, completes, refuses, misses}
+use Rattle.pan_command.proofs.RunCompleteness.{runs_so, run_completes}
 use Rattle.pan_command.proofs.command.panc.Goals as goal
 
 pub returns-clause-complete : goal.returns-clause-complete
@@ -12,3 +14,19 @@ returns-clause-refused_always g c = λ source image bytes all lawful told there 
 pub returns-clause-missing_always : goal.returns-clause-missing_always
 returns-clause-missing_always g c = λ source image all lawful told gone fine.
     rw c.code.ensures (misses _ _ all source image told fine c.args.words.now c.act.result lawful gone c.act.ensures)
+
+pub returns-clause-runs : goal.returns-clause-runs
+returns-clause-runs g c = λ image script lawful. (c.act.result, c.code.ensures, runs_so _ _ image script c.args.words.now c.act.result lawful c.act.ensures)
+
+pub returns-clause-run_complete : goal.returns-clause-run_complete
+returns-clause-run_complete g c = λ image script image_bytes script_bytes parts replies all lawful told image_there layout script_there says fine.
+    rw c.code.ensures (run_completes _ _ all image script image_bytes script_bytes parts replies told image_there layout script_there says fine c.args.words.now c.act.result lawful c.act.ensures)
+
+pub returns-clause-compile_only : goal.returns-clause-compile_only
+returns-clause-compile_only g c = λ source image lawful. rw c.code.ensures (compiles_only _ _ source image c.args.words.now c.act.result lawful c.act.ensures)
+
+pub returns-clause-compiled : goal.returns-clause-compiled
+returns-clause-compiled g c = λ source image lawful zero. compiled_by _ _ source image c.args.words.now c.act.result lawful c.act.ensures (sym c.code.ensures ∙ zero)
+
+pub returns-clause-starved : goal.returns-clause-starved
+returns-clause-starved g c = λ source image lawful eight. starved_by _ _ source image c.args.words.now c.act.result lawful c.act.ensures (sym c.code.ensures ∙ eight)

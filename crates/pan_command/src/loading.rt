@@ -1,0 +1,78 @@
+//! Reads the files of a run: its image and its replies.
+
+ghost use Rattle.std.specs.Prelude.{◌≡◌};
+ghost use Rattle.pan_command.specs.Outside.{outside};
+ghost use Rattle.pan_command.specs.Loading.{ReadsFile, ReadsImage, ReadsScript};
+
+use crate::lines::{put_image_line, put_line, put_script_line};
+use crate::status::Status;
+use image_file::{Image, ImageError, read_image};
+use pan_base::{Blob, FileError, List, Sink, SinkFault, Workspace};
+use pan_port::OwnReply;
+use reply_file::{ReplyFileError, read_replies};
+use std::alloc::Global;
+
+/// The bytes of a file. Where it can't be read, `read NAME` is put.
+pub fn read_file<W: Workspace, O: Sink>(
+    alloc: Global,
+    name: &str,
+    files: &mut W,
+    out: &mut O,
+) -> Result<Blob, Status>
+    ensures { ReadsFile name.now (outside (W.state files.old) (O.state out.old)) (outside (W.state files.new) (O.state out.new)) result }
+{
+    match files.read(alloc, name) {
+        Ok(bytes) => Ok(bytes),
+        Err(FileError::NoMemory) => Err(Status::NoMemory),
+        Err(FileError::Missing | FileError::Fault) => match put_line(out, "read ", name) {
+            Ok(()) => Err(Status::Unread),
+            Err(SinkFault) => Err(Status::Unput),
+        },
+    }
+}
+
+/// The image of a file. Where there is none, the line that says why is put.
+pub fn load_image<W: Workspace, O: Sink>(
+    alloc: Global,
+    name: &str,
+    files: &mut W,
+    out: &mut O,
+) -> Result<Image, Status>
+    ensures { ReadsImage name.now (outside (W.state files.old) (O.state out.old)) (outside (W.state files.new) (O.state out.new)) result }
+{
+    let bytes = match read_file(alloc, name, files, out) {
+        Ok(bytes) => bytes,
+        Err(status) => return Err(status),
+    };
+    match read_image(alloc, bytes.as_slice()) {
+        Ok(image) => Ok(image),
+        Err(ImageError::NoMemory) => Err(Status::NoMemory),
+        Err(fault) => match put_image_line(out, fault) {
+            Ok(()) => Err(Status::NoImage),
+            Err(SinkFault) => Err(Status::Unput),
+        },
+    }
+}
+
+/// The replies of a reply file. Where it is refused, the line that says why is put.
+pub fn load_replies<W: Workspace, O: Sink>(
+    alloc: Global,
+    name: &str,
+    files: &mut W,
+    out: &mut O,
+) -> Result<List<OwnReply>, Status>
+    ensures { ReadsScript name.now (outside (W.state files.old) (O.state out.old)) (outside (W.state files.new) (O.state out.new)) result }
+{
+    let bytes = match read_file(alloc, name, files, out) {
+        Ok(bytes) => bytes,
+        Err(status) => return Err(status),
+    };
+    match read_replies(alloc, bytes.as_slice()) {
+        Ok(replies) => Ok(replies),
+        Err(ReplyFileError::NoMemory) => Err(Status::NoMemory),
+        Err(ReplyFileError::Line(line, cause)) => match put_script_line(out, line, cause) {
+            Ok(()) => Err(Status::NoScript),
+            Err(SinkFault) => Err(Status::Unput),
+        },
+    }
+}
