@@ -221,3 +221,53 @@ fn runs(rt: HostRuntime) -> Result<(), Fail> {
     }
     Ok(())
 }
+
+/// The image of `ecall` alone.
+const ECALL_IMAGE: [u8; 36] = [
+    b'P', b'N', b'K', b'1', 4, 0, 0, 0, 0, 0, 0, 0, 0, 0, 0, 0, 0xff, 0xff, 0xff, 0xff, 0xff, 0xff,
+    0xff, 0xff, 0, 0, 0, 0, 0, 0, 0, 0, 0x73, 0, 0, 0,
+];
+
+/// What is put by the run of this image over no replies, and the status.
+fn run_of(alloc: Global, image: &[u8]) -> Result<(MemSink, u8), NoMemory> {
+    let words = words_of(alloc, "run a.img a.rep")?;
+    let mut files = run_files(alloc, image, "")?;
+    let mut out = MemSink::new(alloc, 100, List::new(alloc))?;
+    let status = panc(alloc, words.as_slice(), &mut files, &mut out);
+    Ok((out, status))
+}
+
+#[test]
+fn small_images(rt: HostRuntime) -> Result<(), Fail> {
+    let alloc = rt.alloc();
+    for (place, byte, text, status) in [
+        (32, 0x73, "exit 0x0000000000000000\n", 0),
+        (32, 0x6f, "spent\n", 10),
+        (32, 0, "fault\n", 13),
+        (0, 0x51, "image Magic\n", 5),
+        (4, 5, "image Field code\n", 5),
+    ] {
+        let mut image = Vec::from_slice(alloc, &ECALL_IMAGE)?;
+        if let Some(old) = image.get_mut(place) {
+            *old = byte;
+        }
+        let (out, ended) = run_of(alloc, image.as_slice())?;
+        assert_eq!(rt; out.bytes(), text.as_bytes());
+        assert_eq!(rt; ended, status);
+    }
+
+    for n in 0..ECALL_IMAGE.len() {
+        let (out, ended) = run_of(alloc, &ECALL_IMAGE[..n])?;
+        let text: &[u8] = b"image Short\n";
+        assert_eq!(rt; out.bytes(), text);
+        assert_eq!(rt; ended, 5);
+    }
+
+    let mut longer = Vec::from_slice(alloc, &ECALL_IMAGE)?;
+    longer.push(0)?;
+    let (out, ended) = run_of(alloc, longer.as_slice())?;
+    let text: &[u8] = b"image Tail\n";
+    assert_eq!(rt; out.bytes(), text);
+    assert_eq!(rt; ended, 5);
+    Ok(())
+}
