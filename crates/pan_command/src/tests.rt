@@ -156,68 +156,68 @@ fn run_files(alloc: Global, image: &[u8], script: &str) -> Result<MemFiles, NoMe
     MemFiles::new(alloc, files, List::new(alloc))
 }
 
+/// What this line puts, over files with this image and these replies, and the status.
+fn run_of(
+    alloc: Global,
+    line: &str,
+    image: &[u8],
+    script: &str,
+) -> Result<(MemSink, u8), NoMemory> {
+    let words = words_of(alloc, line)?;
+    let mut files = run_files(alloc, image, script)?;
+    let mut out = MemSink::new(alloc, 100, List::new(alloc))?;
+    let status = panc(alloc, words.as_slice(), &mut files, &mut out);
+    Ok((out, status))
+}
+
+const RUN: &str = "run a.img a.rep";
+
+const STORED: &str = "st64 0x0000000040000000 0x0000000000000005\nexit 0x0000000000000007\n";
+
 #[test]
 fn runs(rt: HostRuntime) -> Result<(), Fail> {
-    let alloc = rt.alloc();
-    let first: &[u8] = &FIRST_IMAGE;
-    let short: &[u8] = &FIRST_IMAGE[..63];
-    let no_header: &[u8] = &FIRST_IMAGE[..20];
-    let empty: &[u8] = b"";
-    let other: &[u8] = b"PNK2";
-    let stored = "st64 0x0000000040000000 0x0000000000000005\nexit 0x0000000000000007\n";
-    for (line, image, script, text, status) in [
-        ("run a.img a.rep", first, "done", stored, 0),
-        (
-            "run a.img a.rep",
-            first,
-            "# a comment\n\ndone\nstop\n",
-            stored,
-            0,
-        ),
-        ("run a.img a.rep", first, "", "asks\n", 15),
-        ("run a.img a.rep", first, "stop", "stopped\n", 12),
-        ("run a.img a.rep", first, "value 5", "stopped\n", 12),
-        ("run a.img a.rep", short, "done", "image Short\n", 5),
-        ("run a.img a.rep", no_header, "done", "image Short\n", 5),
-        ("run a.img a.rep", empty, "done", "image Short\n", 5),
-        ("run a.img a.rep", other, "done", "image Magic\n", 5),
-        (
-            "run a.img a.rep",
-            first,
-            "done\nsay 5\n",
-            "script 2 Word\n",
-            6,
-        ),
-        ("run a.img a.rep", first, "value", "script 1 Count\n", 6),
-        ("run a.img a.rep", first, "value x", "script 1 Number\n", 6),
-        ("run b.img a.rep", first, "done", "read b.img\n", 3),
-        ("run a.img b.rep", first, "done", "read b.rep\n", 3),
-        ("run a.img", first, "done", "usage\n", 2),
-        ("run a.img -a.rep", first, "done", "usage\n", 2),
+    for (script, text, status) in [
+        ("done", STORED, 0),
+        ("# a comment\n\ndone\nstop\n", STORED, 0),
+        ("", "asks\n", 15),
+        ("stop", "stopped\n", 12),
+        ("value 5", "stopped\n", 12),
+        ("done\nsay 5\n", "script 2 Word\n", 6),
+        ("value", "script 1 Count\n", 6),
+        ("value x", "script 1 Number\n", 6),
     ] {
-        let words = words_of(alloc, line)?;
-        let mut files = run_files(alloc, image, script)?;
-        let mut out = MemSink::new(alloc, 100, List::new(alloc))?;
-        assert_eq!(rt;
-            panc(alloc, words.as_slice(), &mut files, &mut out),
-            status,
-            "{line}: {script}"
-        );
-        assert_eq!(rt; out.bytes(), text.as_bytes(), "{line}: {script}");
-        assert_eq!(rt;
-            bytes_of(alloc, &mut files, "a.img")?.as_slice(),
-            image,
-            "{line}: {script}"
-        );
+        let (out, ended) = run_of(rt.alloc(), RUN, &FIRST_IMAGE, script)?;
+        assert_eq!(rt; out.bytes(), text.as_bytes(), "{script}");
+        assert_eq!(rt; ended, status, "{script}");
     }
+    Ok(())
+}
 
-    // The line of the event can't be put, nor that of the end, and what was put stays.
-    let words = words_of(alloc, "run a.img a.rep")?;
+#[test]
+fn run_words(rt: HostRuntime) -> Result<(), Fail> {
+    for (line, text, status) in [
+        ("run b.img a.rep", "read b.img\n", 3),
+        ("run a.img b.rep", "read b.rep\n", 3),
+        ("run a.img", "usage\n", 2),
+        ("run a.img -a.rep", "usage\n", 2),
+    ] {
+        let (out, ended) = run_of(rt.alloc(), line, &FIRST_IMAGE, "done")?;
+        assert_eq!(rt; out.bytes(), text.as_bytes(), "{line}");
+        assert_eq!(rt; ended, status, "{line}");
+    }
+    Ok(())
+}
+
+/// The line of the event can't be put, nor that of the end, and what was put stays.
+#[test]
+fn run_meets_faults(rt: HostRuntime) -> Result<(), Fail> {
+    let alloc = rt.alloc();
+    let words = words_of(alloc, RUN)?;
     for room in [5, 50] {
-        let mut files = run_files(alloc, first, "done")?;
+        let mut files = run_files(alloc, &FIRST_IMAGE, "done")?;
         let mut out = MemSink::new(alloc, room, List::new(alloc))?;
         assert_eq!(rt; panc(alloc, words.as_slice(), &mut files, &mut out), 7);
-        assert!(rt; stored.as_bytes().starts_with(out.bytes()));
+        assert!(rt; STORED.as_bytes().starts_with(out.bytes()));
     }
     Ok(())
 }
@@ -228,18 +228,8 @@ const ECALL_IMAGE: [u8; 36] = [
     0xff, 0xff, 0, 0, 0, 0, 0, 0, 0, 0, 0x73, 0, 0, 0,
 ];
 
-/// What is put by the run of this image over no replies, and the status.
-fn run_of(alloc: Global, image: &[u8]) -> Result<(MemSink, u8), NoMemory> {
-    let words = words_of(alloc, "run a.img a.rep")?;
-    let mut files = run_files(alloc, image, "")?;
-    let mut out = MemSink::new(alloc, 100, List::new(alloc))?;
-    let status = panc(alloc, words.as_slice(), &mut files, &mut out);
-    Ok((out, status))
-}
-
 #[test]
 fn small_images(rt: HostRuntime) -> Result<(), Fail> {
-    let alloc = rt.alloc();
     for (place, byte, text, status) in [
         (32, 0x73, "exit 0x0000000000000000\n", 0),
         (32, 0x6f, "spent\n", 10),
@@ -247,27 +237,33 @@ fn small_images(rt: HostRuntime) -> Result<(), Fail> {
         (0, 0x51, "image Magic\n", 5),
         (4, 5, "image Field code\n", 5),
     ] {
-        let mut image = Vec::from_slice(alloc, &ECALL_IMAGE)?;
+        let mut image = Vec::from_slice(rt.alloc(), &ECALL_IMAGE)?;
         if let Some(old) = image.get_mut(place) {
             *old = byte;
         }
-        let (out, ended) = run_of(alloc, image.as_slice())?;
+        let (out, ended) = run_of(rt.alloc(), RUN, image.as_slice(), "")?;
         assert_eq!(rt; out.bytes(), text.as_bytes());
         assert_eq!(rt; ended, status);
     }
+    Ok(())
+}
 
+#[test]
+fn short_images(rt: HostRuntime) -> Result<(), Fail> {
     for n in 0..ECALL_IMAGE.len() {
-        let (out, ended) = run_of(alloc, &ECALL_IMAGE[..n])?;
-        let text: &[u8] = b"image Short\n";
-        assert_eq!(rt; out.bytes(), text);
+        let (out, ended) = run_of(rt.alloc(), RUN, &ECALL_IMAGE[..n], "")?;
+        assert_eq!(rt; out.bytes(), b"image Short\n".as_slice());
         assert_eq!(rt; ended, 5);
     }
+    Ok(())
+}
 
-    let mut longer = Vec::from_slice(alloc, &ECALL_IMAGE)?;
-    longer.push(0)?;
-    let (out, ended) = run_of(alloc, longer.as_slice())?;
-    let text: &[u8] = b"image Tail\n";
-    assert_eq!(rt; out.bytes(), text);
+#[test]
+fn longer_image(rt: HostRuntime) -> Result<(), Fail> {
+    let mut image = Vec::from_slice(rt.alloc(), &ECALL_IMAGE)?;
+    image.push(0)?;
+    let (out, ended) = run_of(rt.alloc(), RUN, image.as_slice(), "")?;
+    assert_eq!(rt; out.bytes(), b"image Tail\n".as_slice());
     assert_eq!(rt; ended, 5);
     Ok(())
 }
