@@ -6,12 +6,13 @@ use std::alloc::{AllocError, Global};
 use std::test::Fail;
 
 /// Sources, each with its tokens and their places or with its error.
-const ROWS: [(&[u8], &str); 64] = [
+const ROWS: [(&[u8], &str); 66] = [
     (b"", ""),
     (b" \t\r\n", ""),
     (b"a\rb", "Name a@0-1 Name b@2-3"),
     (b"0x", "BadNumber(0)"),
     (b"0x1g", "BadNumber(0)"),
+    (b"0x1_", "BadNumber(0)"),
     (b"0X1", "BadNumber(0)"),
     (b"1a", "BadNumber(0)"),
     (b"1_", "BadNumber(0)"),
@@ -100,6 +101,7 @@ const ROWS: [(&[u8], &str); 64] = [
     (b"1/**/2", "1@0-1 2@5-6"),
     (b"/* /* */ a", "Name a@9-10"),
     (b"a//", "Name a@0-1"),
+    (b"a// b", "Name a@0-1"),
     (b"//x\ny", "Name y@4-5"),
     (b"// /*\na", "Name a@6-7"),
     (b"/* // */ a", "Name a@9-10"),

@@ -19,6 +19,7 @@ takes n Stop replies k fits = absurd (cc)
 is_asking : (n : ℕ) → IsAsking (writer pause.Asks n) (store_of n)
 is_asking n = record {
   asks = refl;
+  runs = refl;
   silent = λ k. refl;
   event = λ r replies k fits. (running k (n - 1) replies, takes n r replies k fits);
 }
@@ -48,7 +49,7 @@ exits p n budget e l b = rw (e, l) record {
   within = omega arith;
   goes = λ replies k. rw one-add refl;
   bound = λ k. omega arith;
-  pauses = (Exit 0, record { ended = refl; over = tt; goes = λ replies k. refl }, refl, λ q x. absurd (cc));
+  pauses = (Exit 0, record { ended = refl; asks = refl; over = tt; goes = λ replies k. refl }, refl, λ q x. absurd (cc));
   idle = λ h. absurd (runs_on 0 h);
   size = refl;
   frugal = refl;
@@ -94,7 +95,7 @@ still_over p end told n budget e same = rw e record {
   within = omega arith;
   goes = λ replies k. refl;
   bound = λ k. omega arith;
-  pauses = (ending end n, record { ended = refl; over = over_at end n; goes = λ replies k. refl }, same, λ q x. refl);
+  pauses = (ending end n, record { ended = refl; asks = refl; over = over_at end n; goes = λ replies k. refl }, same, λ q x. refl);
   idle = λ h. (refl, refl);
   size = refl;
   frugal = refl;

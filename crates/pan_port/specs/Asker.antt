@@ -27,12 +27,14 @@ IsOver _ = Unit {0}
 -- It asks: with no reply left that is the end, and a reply that fits makes an event.
 pub record IsAsking (a : Meaning) (q : Asked) : Type 0 where
   pub asks : a.pending ≡ Some q
+  pub runs : a.ended ≡ None
   pub silent : (k : ℕ) → a.go [] k ≡ only (Asks q)
   pub event : (r : Replied) (replies : List Replied) (k : ℕ) → Fits q r → (rest : Behaviour) × (a.go (r ∷ replies) k ≡ before q r rest)
 
 -- it has ended, whatever replies and steps are left
 pub record HasEnded (a : Meaning) (x : Ending) : Type 0 where
   pub ended : a.ended ≡ Some x
+  pub asks : a.pending ≡ None
   pub over : IsOver x
   pub goes : (replies : List Replied) (k : ℕ) → a.go replies k ≡ only x
 

@@ -2,7 +2,7 @@
 use Rattle.std.specs.Prelude.{ℕ, ◌≤◌, ◌==◌, not, length, IsTrue}
 use Rattle.std.specs.List.{list_all}
 use Rattle.pan_base.specs.declared.events.Request.{Request}
-use Rattle.pan_base.specs.declared.events.Request.TheVariants.{Load, Store, Foreign}
+use Rattle.pan_base.specs.declared.events.Request.TheVariants.{Foreign}
 
 -- no buffer is longer, and a name has no line feed
 abbrev pub BuffersFit : Request → ℕ → Type 0

@@ -1,7 +1,7 @@
 -- What a device answers.
-use Rattle.std.specs.Prelude.{◌≡◌, ℕ, ◌≤◌, List, [], ◌∷◌, Bool, true, false}
+use Rattle.std.specs.Prelude.{◌≡◌, ℕ, ◌≤◌, List, Bool, true, false}
 use Rattle.pan_base.specs.Causes.{Rose}
-use Rattle.pan_base.specs.Events.{Asked, Load, Store, Foreign, Replied, Value, Done, Bytes, Stop}
+use Rattle.pan_base.specs.Events.{Replied, Value, Done, Bytes, Stop}
 use Rattle.pan_port.specs.declared.device.Answer.{Answer}
 use Rattle.pan_port.specs.declared.device.Answer.TheVariants as answer
 

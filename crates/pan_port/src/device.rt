@@ -22,7 +22,6 @@ pub enum Answer {
 /// Answers requests. An answer of the wrong kind, or a value that is too large, is a reply that doesn't fit.
 pub trait Device {
     /// From one state it may answer a request so, and then has another state. It holds always where it isn't told.
-    /// `Quiet` leaves the state as it was.
     ghost gives: { Self → Asked → Given → Self → Type 0 } = { λ _ _ _ _. Unit {0} };
 
     /// How often it answered `Stop`.

@@ -57,7 +57,7 @@ jalr_read w = if field 12 3 w == 0b000 then Some (instr.Jalr (field 7 5 w) (fiel
 unfoldable pub fence_read : ℕ → Option Instr
 fence_read w = if field 12 3 w == 0b000 then Some (instr.Fence (field 15 17 w) (field 7 5 w)) else None
 
--- the shift by a fixed amount with this opcode, funct3, six bits above the amount, and bit 25
+-- the shift by a fixed amount: by opcode, funct3 and the bits above the amount
 unfoldable pub sh_read : ℕ → Option Instr
 sh_read w =
     if field 0 7 w == 0b0010011 && field 12 3 w == 0b001 && field 26 6 w == 0b000000 then Some (instr.Sh Slli (field 7 5 w) (field 15 5 w) (field 20 6 w))

@@ -98,7 +98,7 @@ act (instr.Fence high rd) s = Runs (next s)
 act instr.Ecall s = ecall (reg s 17) s
 act instr.Ebreak s = Over Fault
 
--- the instruction of a word outside the table, or outside the code, is a fault
+-- a word outside the table, or a pc outside the code, is a fault
 abbrev pub act_some : Option Instr → State → Config
 act_some None s = Over Fault
 act_some (Some i) s = act i s

@@ -139,7 +139,7 @@ ShRow Slliw w rd rs1 amount = ShwFormat w 0b0011011 0b001 0b0000000 rd rs1 amoun
 ShRow Srliw w rd rs1 amount = ShwFormat w 0b0011011 0b101 0b0000000 rd rs1 amount
 ShRow Sraiw w rd rs1 amount = ShwFormat w 0b0011011 0b101 0b0100000 rd rs1 amount
 
--- the amounts that a shift may have
+-- the amounts of a shift are below this
 abbrev pub amounts : ShiftOp → ℕ
 amounts Slli = 64
 amounts Srli = 64

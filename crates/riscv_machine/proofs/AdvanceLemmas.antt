@@ -61,7 +61,7 @@ started old mid used (inl p) running = sym (ap (λ m. m.phase) p.0) ∙ running
 started old mid used (inr p) running = p.0
 
 over_in : (e : Ending) (size : ℕ) → IsOver e → HasEnded (meaning_in (Over e) size) e
-over_in e size over = record { ended = refl; over = over; goes = λ replies k. refl }
+over_in e size over = record { ended = refl; asks = refl; over = over; goes = λ replies k. refl }
 
 is_over : (end : MachineEnd) → IsOver (ending_of end)
 is_over (machine_end.Exit n) = tt

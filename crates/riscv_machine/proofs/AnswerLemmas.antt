@@ -41,7 +41,7 @@ module _ (p : Pending) (s : State) (size : ℕ) where
   ends : (r : Replied) → fits q r ≡ false → Ends waiting (after false r) q r
   ends r e = record {
     goes = goes_by r false e;
-    over = record { ended = refl; over = tt; goes = λ replies k. refl };
+    over = record { ended = refl; asks = refl; over = tt; goes = λ replies k. refl };
   }
 
   same_request : (asked : Asked) → pending_in (Waits p s) ≡ Some asked → q ≡ asked
@@ -73,6 +73,7 @@ module _ (p : Pending) (s : State) (size : ℕ) where
   pub asking : IsAsking waiting q
   asking = record {
     asks = refl;
+    runs = refl;
     silent = λ k. refl;
     event = λ r replies k fit. (run k (resumed p s r) replies, goes_by r true fit replies k);
   }
