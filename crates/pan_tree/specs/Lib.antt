@@ -1,3 +1,5 @@
 pub mod Weight
 pub mod Value
 pub mod Meaning
+pub mod Nodes
+pub mod Grammar

@@ -13,8 +13,8 @@ use Rattle.pan_tree.specs.Weight.{cost}
 use Rattle.pan_tree.specs.declared.spanned.Spanned.{Spanned}
 use Rattle.pan_tree.specs.declared.syntax.ExprKind.{ExprKind, ExprKind-F, fold-ExprKind}
 use Rattle.pan_tree.specs.declared.syntax.ExprKind.TheOpen as expr
-use Rattle.pan_tree.specs.declared.syntax.StmtKind.{StmtKind}
-use Rattle.pan_tree.specs.declared.syntax.StmtKind.TheVariants as stmt
+use Rattle.pan_tree.specs.declared.syntax.StmtKind.{StmtKind, StmtKind-F, fold-StmtKind}
+use Rattle.pan_tree.specs.declared.syntax.StmtKind.TheOpen as stmt
 use Rattle.pan_tree.specs.declared.program.Function.{Function}
 use Rattle.pan_tree.specs.declared.program.Program.{Program}
 
@@ -34,10 +34,11 @@ chain a [] v m = a
 chain None (p ∷ ps) v m = None
 chain (Some a) (p ∷ ps) v m = chain (option_map (operate p.0 a) (as_word ((p.1).kind v m))) ps v m
 
--- what an expression gives, from what its parts give
+-- What an expression gives, from what its parts give. The other expressions have no meaning so far.
 abbrev pub value_layer : ExprKind-F Giving → Giving
 value_layer (expr.Number n) v m = Some (Word n)
 value_layer (expr.Chain first rest) v m = option_map Word (chain (as_word (first.kind v m)) rest v m)
+value_layer _ v m = None
 
 unfoldable pub value_kind : ExprKind → Giving
 value_kind = fold-ExprKind Giving value_layer
@@ -60,12 +61,16 @@ Does = Meaning Scopes Value
 abbrev pub is_shared : Size → ℕ → Bool
 is_shared size addr = nat_le 0x40000000 addr && nat_le (addr + byte_count size) 0x80000000 && nat_eq (addr % byte_count size) 0
 
--- what a statement does
-abbrev pub run_kind : StmtKind → Does
-run_kind (stmt.Return e) v w = with_value (value e v w.memory) w (λ a. Returned a w)
-run_kind (stmt.SharedStore size a e) v w =
+-- What a statement does, from what its parts do. The other statements have no meaning so far, and fail.
+abbrev pub run_layer : StmtKind-F Does → Does
+run_layer (stmt.Return e) v w = with_value (value e v w.memory) w (λ a. Returned a w)
+run_layer (stmt.SharedStore size a e) v w =
     with_value (word a v w.memory) w (λ addr. with_value (word e v w.memory) w (λ n.
     where_true (is_shared size addr) w (ask (Store size addr (n % 2 ^ (8 * byte_count size))) w (λ r w. Normal v w))))
+run_layer _ v w = Over Fails w
+
+unfoldable pub run_kind : StmtKind → Does
+run_kind = fold-StmtKind Does run_layer
 
 -- ---- programs
 

@@ -5,8 +5,8 @@ use Rattle.pan_tree.specs.declared.shape.Shape.TheOpen as shape
 use Rattle.pan_tree.specs.declared.spanned.Spanned.{Spanned}
 use Rattle.pan_tree.specs.declared.syntax.ExprKind.{ExprKind, ExprKind-F, fold-ExprKind}
 use Rattle.pan_tree.specs.declared.syntax.ExprKind.TheOpen as expr
-use Rattle.pan_tree.specs.declared.syntax.StmtKind.{StmtKind}
-use Rattle.pan_tree.specs.declared.syntax.StmtKind.TheVariants as stmt
+use Rattle.pan_tree.specs.declared.syntax.StmtKind.{StmtKind, StmtKind-F, fold-StmtKind}
+use Rattle.pan_tree.specs.declared.syntax.StmtKind.TheOpen as stmt
 use Rattle.pan_tree.specs.declared.program.Function.{Function}
 use Rattle.pan_tree.specs.declared.program.Program.{Program}
 
@@ -20,10 +20,11 @@ words_layer (shape.Group parts) = sum parts
 unfoldable pub words_of : Shape → ℕ
 words_of = fold-Shape ℕ words_layer
 
--- a number weighs 1 and its word, a chain 2 for each operator, and each weighs its parts besides
+-- A number weighs 1 and its word, a chain 2 for each operator, and each weighs its parts besides. The other expressions aren't weighed so far.
 abbrev pub expr_layer : ExprKind-F ℕ → ℕ
 expr_layer (expr.Number n) = 2
 expr_layer (expr.Chain first rest) = first.kind + sum (map (λ p. 2 + (p.1).kind) rest)
+expr_layer _ = 0
 
 unfoldable pub kind_weight : ExprKind → ℕ
 kind_weight = fold-ExprKind ℕ expr_layer
@@ -31,13 +32,17 @@ kind_weight = fold-ExprKind ℕ expr_layer
 abbrev pub expr_weight : Spanned ExprKind → ℕ
 expr_weight e = kind_weight e.kind
 
--- a statement weighs 4 and its expressions
+-- A statement weighs 4 and its expressions. The other statements aren't weighed so far.
+abbrev pub stmt_layer : StmtKind-F ℕ → ℕ
+stmt_layer (stmt.Return e) = 4 + expr_weight e
+stmt_layer (stmt.SharedStore size a e) = 4 + expr_weight a + expr_weight e
+stmt_layer _ = 0
+
+unfoldable pub stmt_kind_weight : StmtKind → ℕ
+stmt_kind_weight = fold-StmtKind ℕ stmt_layer
+
 abbrev pub stmt_weight : Spanned StmtKind → ℕ
-stmt_weight s = by_kind s.kind
-  where
-    by_kind : StmtKind → ℕ
-    by_kind (stmt.Return e) = 4 + expr_weight e
-    by_kind (stmt.SharedStore size a e) = 4 + expr_weight a + expr_weight e
+stmt_weight s = stmt_kind_weight s.kind
 
 -- a function weighs 4, the words of its parameters and of its result, and its statements
 abbrev pub function_weight : Function → ℕ

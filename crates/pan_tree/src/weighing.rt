@@ -41,10 +41,21 @@ fn of_kind(kind: &ExprKind) -> u64
             }
             total
         }
+        ExprKind::Var(_)
+        | ExprKind::Base
+        | ExprKind::Biw
+        | ExprKind::Struct(_)
+        | ExprKind::Field(_, _)
+        | ExprKind::Load(_, _)
+        | ExprKind::LoadByte(_)
+        | ExprKind::Neg(_)
+        | ExprKind::Shift(_, _)
+        | ExprKind::Compare(_, _, _) => 0,
     }
 }
 
 /// What a statement weighs.
+#[tactic(auto, using(crate::proofs::StmtWeights::stmt_rules))]
 fn of_stmt(stmt: &Stmt) -> u64
     ensures { result ≡ min (stmt_weight stmt.now) (2 ^ 64 - 1) }
 {
@@ -53,6 +64,20 @@ fn of_stmt(stmt: &Stmt) -> u64
         StmtKind::SharedStore(_, addr, value) => of_kind(&addr.kind)
             .saturating_add(of_kind(&value.kind))
             .saturating_add(4),
+        StmtKind::Skip
+        | StmtKind::Decl(_, _)
+        | StmtKind::Assign(_, _)
+        | StmtKind::StoreWords(_, _)
+        | StmtKind::StoreByte(_, _)
+        | StmtKind::If(_, _, _)
+        | StmtKind::While(_, _)
+        | StmtKind::Break
+        | StmtKind::Continue
+        | StmtKind::Call(_)
+        | StmtKind::TailCall(_, _)
+        | StmtKind::Raise(_, _)
+        | StmtKind::SharedLoad(_, _, _)
+        | StmtKind::Foreign(_, _, _, _, _) => 0,
     }
 }
 
