@@ -2,5 +2,7 @@
 #![tactic(auto)]
 
 mod error;
+mod parsing;
 
 pub use error::ParseError;
+pub use parsing::parse;

@@ -1,3 +1,1 @@
-pub mod Lexing
 pub mod Form
-pub mod Source

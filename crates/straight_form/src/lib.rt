@@ -1,7 +1,7 @@
-//! The straight-line form of sources: a main function of 64-bit shared stores and one return, over sums of numbers
-//! (`specs/`), and its tokens.
+//! The straight-line form of programs: a main function of 64-bit shared stores and one return, over sums of numbers
+//! (`specs/`).
 #![tactic(auto)]
 
-mod token;
+mod form;
 
-pub use token::Token;
+pub use form::is_straight;
