@@ -1,33 +1,59 @@
 -- The statements of a straight-line program, and how many they are.
-use Rattle.std.proofs.Common.{◌≡◌, ℕ, ◌+◌, ◌*◌, ◌≤◌, refl, sym, ap, ◌∙◌, subst, List, [], ◌∷◌, length, map, sum, get_or, arith}
+use Rattle.std.proofs.Common.{◌≡◌, ℕ, ◌+◌, ◌*◌, ◌≤◌, refl, sym, ap, ◌∙◌, subst, List, [], ◌∷◌, length, map, sum, get_or, arith, inl, inr}
 use Rattle.std.specs.Prelude.{codes}
 use Rattle.std.specs.List.{All}
-use Rattle.std.proofs.lemmas.List.Elements.{All-nil, All-cons}
+use Rattle.std.proofs.lemmas.List.Elements.{All-nil, All-cons, All-append, All-head, All-tail}
+use Rattle.pan_base.specs.declared.events.Size.{Size}
+use Rattle.pan_base.specs.declared.events.Size.TheVariants.{B8}
+use Rattle.pan_tree.specs.declared.syntax.ExprKind.{ExprKind}
+use Rattle.pan_tree.specs.declared.syntax.StmtKind.TheVariants as stmt
 use Rattle.std.proofs.lemmas.List.Sums.{sum_by-cons}
 use Rattle.pan_tree.specs.declared.spanned.Spanned.{Spanned}
 use Rattle.pan_tree.specs.declared.syntax.StmtKind.{StmtKind}
-use Rattle.pan_tree.specs.declared.syntax.StmtKind.TheVariants as stmt
 use Rattle.pan_tree.specs.declared.program.Function.{Function}
 use Rattle.pan_tree.specs.declared.program.Program.{Program}
-use Rattle.pan_tree.specs.Weight.{stmt_weight, function_weight, weight}
-use Rattle.straight_form.specs.Form.{IsBody, IsStraight}
+use Rattle.pan_tree.specs.Weight.{stmt_kind_weight, stmt_weight, function_weight, weight}
+use Rattle.straight_form.specs.Form.{IsSum, IsStore, IsBody, IsStraight}
+use Rattle.straight_form.proofs.Forms.{same_return, same_store}
+use Rattle.straight_compiler.proofs.Statements.{store_weight, return_weight}
 use Rattle.straight_compiler.specs.Performs.{IsPlain}
 
 abbrev Plain : Spanned StmtKind → Type 0
 Plain s = IsPlain s.kind
 
-plain_body : (stmts : List (Spanned StmtKind)) (stores : List (List ℕ × List ℕ)) (result : List ℕ) → IsBody stmts stores result → All Plain stmts
-plain_body [] stores result h = absurd h
-plain_body (s ∷ []) [] result (e, is, sum) = All-cons Plain s [] (subst IsPlain (sym is) tt) (All-nil Plain)
-plain_body (s ∷ t ∷ ts) [] result h = absurd h
-plain_body (s ∷ ss) (p ∷ stores) result (a, e, is, first, second, more) = All-cons Plain s ss (subst IsPlain (sym is) refl) (plain_body ss stores result more)
+Stores : Spanned StmtKind → Type 0
+Stores s = IsStore s.kind
 
-heavy : (s : Spanned StmtKind) → 4 ≤ stmt_weight s
-heavy s = elim s.kind as (λ k. 4 ≤ stmt_weight (record { kind = k; span = s.span })) [ stmt.Return e ↦ omega arith | stmt.SharedStore size a e ↦ omega arith ]
+plain_stores : (ss : List (Spanned StmtKind)) → All Stores ss → All Plain ss
+unfolding Stores
+plain_stores ss all k d small = inl (all k d small)
 
-heavy_all : (stmts : List (Spanned StmtKind)) → 4 * length stmts ≤ sum (map stmt_weight stmts)
-heavy_all [] = omega arith
-heavy_all (s ∷ ss) = omega (arith, heavy s, heavy_all ss, sum_by-cons (λ (n : ℕ). n) (stmt_weight s) (map stmt_weight ss))
+plain_body : (stmts : List (Spanned StmtKind)) → IsBody stmts → All Plain stmts
+unfolding Stores
+plain_body stmts (ss, last, is, stores, return) = subst (All Plain) (sym is) (All-append Plain ss (last ∷ []) (plain_stores ss stores) (All-cons Plain last [] (inr return) (All-nil Plain)))
+
+heavy : (k : StmtKind) → IsPlain k → 4 ≤ stmt_kind_weight k
+heavy k (inl (a, e, is, p, q)) = omega (arith, ap stmt_kind_weight is ∙ store_weight B8 a e)
+heavy k (inr (e, is, p)) = omega (arith, ap stmt_kind_weight is ∙ return_weight e)
+
+heavy_all : (stmts : List (Spanned StmtKind)) → All Plain stmts → 4 * length stmts ≤ sum (map stmt_weight stmts)
+heavy_all [] all = omega arith
+heavy_all (s ∷ ss) all =
+    omega (arith, heavy s.kind (All-head Plain s ss all), heavy_all ss (All-tail Plain s ss all), sum_by-cons (λ (n : ℕ). n) (stmt_weight s) (map stmt_weight ss))
+
+return_no_store : (x a e : Spanned ExprKind) (n : Size) → stmt.Return x ≡ stmt.SharedStore n a e → ⊥
+return_no_store x a e n is = cc
+
+pub plain_return : (k : StmtKind) (x : Spanned ExprKind) → k ≡ stmt.Return x → IsPlain k → IsSum x.kind
+plain_return k x is (inl (a, e, at, p, q)) = absurd (return_no_store x a e B8 (sym is ∙ at))
+plain_return k x is (inr (e, at, p)) = subst (λ (y : Spanned ExprKind). IsSum y.kind) (same_return e x (sym at ∙ is)) p
+
+-- what a store of the form stores: 64 bits, and sums
+pub plain_store : (k : StmtKind) (n : Size) (a x : Spanned ExprKind) → k ≡ stmt.SharedStore n a x → IsPlain k → (n ≡ B8) × IsSum a.kind × IsSum x.kind
+plain_store k n a x is (inl (b, e, at, p, q)) =
+    let same = same_store B8 n b a e x (sym at ∙ is) in
+    (sym same.0, subst (λ (y : Spanned ExprKind). IsSum y.kind) same.1 p, subst (λ (y : Spanned ExprKind). IsSum y.kind) same.2 q)
+plain_store k n a x is (inr (e, at, p)) = absurd (return_no_store e a x n (sym at ∙ is))
 
 -- the one function of a straight-line program, with the statements that are read from it
 pub record IsMain (program : Program) (main : Function) (stmts : List (Spanned StmtKind)) : Type 0 where
@@ -37,21 +63,22 @@ pub record IsMain (program : Program) (main : Function) (stmts : List (Spanned S
   pub plain : All (λ s. IsPlain s.kind) stmts
   pub few : 4 * length stmts ≤ weight program
 
-few : (program : Program) (main : Function) → program.functions ≡ main ∷ [] → 4 * length (main.body).stmts ≤ weight program
-few program main is =
+few : (program : Program) (main : Function) → program.functions ≡ main ∷ [] → All Plain (main.body).stmts → 4 * length (main.body).stmts ≤ weight program
+few program main is plain =
     let e : weight program ≡ 0 + function_weight main = ap (λ fs. sum (map function_weight fs)) is in
-    omega (arith, heavy_all (main.body).stmts)
+    omega (arith, heavy_all (main.body).stmts plain)
 
-pub main_is : (program : Program) (stores : List (List ℕ × List ℕ)) (result : List ℕ) → IsStraight program stores result → (items : List Function) (first : Function) (stmts : List (Spanned StmtKind))
+pub main_is : (program : Program) → IsStraight program → (items : List Function) (first : Function) (stmts : List (Spanned StmtKind))
     → items ≡ program.functions → first ≡ get_or items 0 first → stmts ≡ (first.body).stmts → IsMain program first stmts
-main_is program stores result h items first stmts all is body =
-    let same : first ≡ h.main = is ∙ ap (λ fs. get_or fs 0 first) (all ∙ h.functions) in
-    let functions : program.functions ≡ first ∷ [] = h.functions ∙ ap (λ f. f ∷ []) (sym same) in
-    let body' : stmts ≡ ((h.main).body).stmts = body ∙ ap (λ (f : Function). (f.body).stmts) same in
+main_is program (main, none, one, h) items first stmts all is body =
+    let same : first ≡ main = is ∙ ap (λ fs. get_or fs 0 first) (all ∙ one) in
+    let functions : program.functions ≡ first ∷ [] = one ∙ ap (λ f. f ∷ []) (sym same) in
+    let body' : stmts ≡ (main.body).stmts = body ∙ ap (λ (f : Function). (f.body).stmts) same in
+    let plain : All Plain stmts = subst (All Plain) (sym body') (plain_body (main.body).stmts h.body) in
     record {
       functions = functions;
       name = ap (λ (f : Function). f.name) same ∙ h.name;
       body = body;
-      plain = subst (All Plain) (sym body') (plain_body ((h.main).body).stmts stores result h.body);
-      few = subst (λ ss. 4 * length ss ≤ weight program) (sym body) (few program first functions);
+      plain = plain;
+      few = subst (λ ss. 4 * length ss ≤ weight program) (sym body) (few program first functions (subst (All Plain) body plain));
     }

@@ -1,5 +1,5 @@
 -- The instructions of a return.
-use Rattle.std.proofs.Common.{◌≡◌, ℕ, refl, sym, ap, ◌∙◌, List, [], ◌∷◌, ◌++◌, append_assoc, length, set, get_or, Option, Some, None, arith}
+use Rattle.std.proofs.Common.{◌≡◌, ℕ, refl, sym, ap, ◌∙◌, subst, List, [], ◌∷◌, ◌++◌, append_assoc, length, set, get_or, Option, Some, None, arith}
 use Rattle.std.proofs.lemmas.List.{append-nil, length-append, length-set, get_or-set_same, get_or-set_other}
 use Rattle.std.proofs.lemmas.List.Elements.{All-append, All-push}
 use Rattle.pan_base.specs.Events.{Replied, Event, Behaviour, Ending, Exit, only}
@@ -9,7 +9,8 @@ use Rattle.pan_tree.specs.declared.spanned.Spanned.{Spanned}
 use Rattle.pan_tree.specs.declared.syntax.ExprKind.{ExprKind}
 use Rattle.pan_tree.specs.declared.syntax.StmtKind.TheVariants as stmt
 use Rattle.pan_tree.specs.Value.{Value, Scopes}
-use Rattle.pan_tree.specs.Meaning.{as_word, value, word, run_kind, exit_of}
+use Rattle.pan_tree.specs.Meaning.{Does, as_word, value, word, run_kind, exit_of}
+use Rattle.straight_compiler.proofs.Statements.{return_is}
 use Rattle.riscv_isa.specs.declared.instr.Instr.{Instr}
 use Rattle.riscv_isa.specs.declared.instr.Instr.TheVariants as instr
 use Rattle.riscv_isa.specs.Step.{State, Config, reg, act}
@@ -49,7 +50,7 @@ returned_same None x w go is = absurd (cc)
 returned_same (Some a) x w go is = ended_same w.trace _ (append-nil w.trace) _ _ (sym (ap exit_of is))
 
 return_performs : (e : Spanned ExprKind) (x : ℕ) (first second third : List Instr) → ((v : Scopes) (m : List ℕ) → word e v m ≡ Some x)
-    → SetsRegister 11 x first → SetsRegister 10 0 second → SetsRegister 17 0 third → Performs (run_kind (stmt.Return e)) (((first ++ second) ++ third) ++ instr.Ecall ∷ [])
+    → SetsRegister 11 x first → SetsRegister 10 0 second → SetsRegister 17 0 third → Performs (λ v w. with_value (value e v w.memory) w (λ a. Returned a w)) (((first ++ second) ++ third) ++ instr.Ecall ∷ [])
 return_performs e x first second third gives f g h = record {
   row = All-push IsInline _ instr.Ecall (All-append IsInline (first ++ second) third (All-append IsInline first second f.row g.row) h.row) tt;
   does = λ s ready.
@@ -79,5 +80,5 @@ return_grows e x old first second third new gives (a, at₁, f) (b, at₂, g) (c
   added = ((a ++ b) ++ c) ++ instr.Ecall ∷ [];
   grown = at₄ ∙ ap (λ code. code ++ instr.Ecall ∷ []) (at₃ ∙ ap (λ code. code ++ c) (at₂ ∙ ap (λ code. code ++ b) at₁ ∙ append_assoc old a b) ∙ append_assoc old (a ++ b) c) ∙ append_assoc old ((a ++ b) ++ c) _;
   short = let i = at_most_eight x in let p = f.short in let q = g.short in let r = h.short in simp length-append (omega arith);
-  performs = return_performs e x a b c gives f g h;
+  performs = subst (λ (m : Does). Performs m (((a ++ b) ++ c) ++ instr.Ecall ∷ [])) (sym (return_is e)) (return_performs e x a b c gives f g h);
 }

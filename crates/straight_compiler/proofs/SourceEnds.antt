@@ -1,13 +1,14 @@
 -- A source meets neither a fault nor the end of a stack.
-use Rattle.std.proofs.Common.{◌≢◌, ℕ, ◌*◌, ◌%◌, ◌^◌, List, [], ◌∷◌, map, Bool, true, false, Option, Some, None}
+use Rattle.std.proofs.Common.{◌≢◌, sym, subst, ℕ, ◌*◌, ◌%◌, ◌^◌, List, [], ◌∷◌, map, Bool, true, false, Option, Some, None}
 use Rattle.pan_base.specs.Events.{Asked, Store, Replied, Ending, Fault, Stack, fits, byte_count}
 use Rattle.pan_control.specs.World.{World}
 use Rattle.pan_control.specs.Control.{Outcome, Normal, Broken, Continued, Returned, Raised, Over, Meaning, and_then, in_turn, with_value, where_true, ask_of, ask_fit, left}
 use Rattle.pan_tree.specs.declared.spanned.Spanned.{Spanned}
-use Rattle.pan_tree.specs.declared.syntax.StmtKind.{StmtKind}
-use Rattle.pan_tree.specs.declared.syntax.StmtKind.TheVariants as stmt
+use Rattle.pan_tree.specs.declared.syntax.StmtKind.{StmtKind, StmtKind-F, map-StmtKind}
+use Rattle.pan_tree.specs.declared.syntax.StmtKind.TheOpen as stmt
+use Rattle.straight_compiler.proofs.Statements.{run_roll, by_layers}
 use Rattle.pan_tree.specs.Value.{Value, Scopes, word_of}
-use Rattle.pan_tree.specs.Meaning.{value, word, is_shared, run_kind, exit_of, seen}
+use Rattle.pan_tree.specs.Meaning.{Does, run_layer, value, word, is_shared, run_kind, exit_of, seen}
 
 -- an end of a source
 pub record IsOfSource (e : Ending) : Type 0 where
@@ -34,10 +35,15 @@ ask_ends : (replies : List Replied) (q : Asked) (w : World) (v : Scopes) → End
 ask_ends [] q w v = record { no_fault = λ e. cc; no_stack = λ e. cc }
 ask_ends (r ∷ rs) q w v = fit_ends (fits q r) q r rs w v
 
-stmt_ends : (k : StmtKind) (v : Scopes) (w : World) → EndsAsSource (run_kind k v w)
-stmt_ends (stmt.Return e) v w = value_ends (value e v w.memory) w _ (λ a. tt)
-stmt_ends (stmt.SharedStore size a e) v w =
+layer_ends : (x : StmtKind-F Does) (v : Scopes) (w : World) → EndsAsSource (run_layer x v w)
+layer_ends (stmt.Return e) v w = value_ends (value e v w.memory) w _ (λ a. tt)
+layer_ends (stmt.SharedStore size a e) v w =
     value_ends (word a v w.memory) w _ (λ addr. value_ends (word e v w.memory) w _ (λ n. true_ends (is_shared size addr) w _ (ask_ends w.replies (Store size addr (n % 2 ^ (8 * byte_count size))) w v)))
+layer_ends _ v w = record { no_fault = λ e. cc; no_stack = λ e. cc }
+
+stmt_ends : (k : StmtKind) (v : Scopes) (w : World) → EndsAsSource (run_kind k v w)
+stmt_ends = by_layers (λ k. (v : Scopes) (w : World) → EndsAsSource (run_kind k v w))
+    (λ y v w. subst (λ (m : Does). EndsAsSource (m v w)) (sym (run_roll (map-StmtKind _ StmtKind (λ c. c.0) y))) (layer_ends _ v w))
 
 then_ends : (o : Outcome Scopes Value) (m : Meaning Scopes Value) → EndsAsSource o → ((v : Scopes) (w : World) → EndsAsSource (m v w)) → EndsAsSource (and_then o m)
 then_ends (Normal v w) m h all = all v w

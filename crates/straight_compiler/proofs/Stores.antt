@@ -15,7 +15,8 @@ use Rattle.pan_tree.specs.declared.spanned.Spanned.{Spanned}
 use Rattle.pan_tree.specs.declared.syntax.ExprKind.{ExprKind}
 use Rattle.pan_tree.specs.declared.syntax.StmtKind.TheVariants as stmt
 use Rattle.pan_tree.specs.Value.{Value, Scopes}
-use Rattle.pan_tree.specs.Meaning.{word, is_shared, run_kind}
+use Rattle.pan_tree.specs.Meaning.{Does, word, is_shared, run_kind}
+use Rattle.straight_compiler.proofs.Statements.{store_is}
 use Rattle.riscv_isa.specs.declared.instr.Instr.{Instr}
 use Rattle.riscv_isa.specs.declared.instr.Instr.TheVariants as instr
 use Rattle.riscv_isa.specs.declared.place.Region.{Region}
@@ -92,7 +93,7 @@ stored x y v w = where_true (is_shared size.B8 x) w (ask (Store size.B8 x (y % 2
 
 stored_is : (a e : Spanned ExprKind) (x y : ℕ) → ((v : Scopes) (m : List ℕ) → word a v m ≡ Some x) → ((v : Scopes) (m : List ℕ) → word e v m ≡ Some y)
     → (v : Scopes) (w : World) → run_kind (stmt.SharedStore size.B8 a e) v w ≡ stored x y v w
-stored_is a e x y gives_a gives_e v w = rw (gives_a v w.memory, gives_e v w.memory) refl
+stored_is a e x y gives_a gives_e v w = ap (λ (f : Does). f v w) (store_is size.B8 a e) ∙ rw (gives_a v w.memory, gives_e v w.memory) refl
 
 stored_same : (b : Bool) (x y : ℕ) (t : State) (v : Scopes) (w : World) (go : State → List Replied → Behaviour) → is_shared size.B8 x ≡ b
     → (b ≡ true → act sd t ≡ Waits (pending.Store size.B8 x (y % 2 ^ 64)) (next t))

@@ -1,24 +1,22 @@
 -- When instructions do what statements of the source mean.
-use Rattle.std.specs.Prelude.{◌≡◌, ◌≢◌, ◌+◌, ◌≤◌, List, ◌++◌, length}
+use Rattle.std.specs.Prelude.{◌≡◌, ◌≢◌, ◌⊎◌, ◌+◌, ◌≤◌, List, ◌++◌, length}
 use Rattle.std.specs.List.{All}
-use Rattle.pan_base.specs.declared.events.Size.TheVariants.{B8}
 use Rattle.pan_base.specs.Events.{Replied, Behaviour, Fails}
 use Rattle.pan_control.specs.World.{World}
 use Rattle.pan_control.specs.Control.{Outcome, Normal, left}
 use Rattle.pan_tree.specs.Value.{Value, Scopes}
 use Rattle.pan_tree.specs.Meaning.{Does, seen}
 use Rattle.pan_tree.specs.declared.syntax.StmtKind.{StmtKind}
-use Rattle.pan_tree.specs.declared.syntax.StmtKind.TheVariants as stmt
+use Rattle.straight_form.specs.Form.{IsStore, IsReturn}
 use Rattle.riscv_isa.specs.declared.instr.Instr.{Instr}
 use Rattle.riscv_isa.specs.declared.place.Region.{Region}
 use Rattle.riscv_isa.specs.Regions.{begin, bytes_of}
 use Rattle.riscv_isa.specs.Step.{State}
 use Rattle.straight_compiler.specs.Follow.{IsInline, follow}
 
--- a statement of the straight-line form: its stores are of 64 bits
+-- a statement of the straight-line form
 abbrev pub IsPlain : StmtKind → Type 0
-IsPlain (stmt.Return e) = Unit {0}
-IsPlain (stmt.SharedStore size a e) = size ≡ B8
+IsPlain s = IsStore s ⊎ IsReturn s
 
 -- what is seen of a run that has come to this world and goes on so
 abbrev pub shown : World → Behaviour → Behaviour

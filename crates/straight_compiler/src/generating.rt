@@ -5,6 +5,7 @@ ghost use Rattle.std.specs.List.{All};
 ghost use Rattle.pan_base.specs.declared.events.Size.TheVariants.{B8};
 ghost use Rattle.pan_control.specs.Control.{in_turn};
 ghost use Rattle.pan_tree.specs.Meaning.{run_kind};
+ghost use Rattle.straight_form.specs.Form.{IsSum};
 ghost use Rattle.straight_compiler.specs.Performs.{IsPlain, Performs, Grows};
 
 use crate::constants::push_constant;
@@ -27,6 +28,8 @@ const CALL: u8 = 17;
 
 /// Puts at the end of the code the instructions that store the 64 bits of a value to the shared window.
 fn push_store(code: &mut List<Instr>, address: &Expr, value: &Expr) -> Result<(), NoMemory>
+    requires address { IsSum address.now.kind }
+    requires value { IsSum value.now.kind }
     ensures { OnOk result
         (Grows (run_kind (StmtKind.SharedStore B8 address.now value.now)) code.old code.new) }
 {
@@ -43,6 +46,7 @@ fn push_store(code: &mut List<Instr>, address: &Expr, value: &Expr) -> Result<()
 
 /// Puts at the end of the code the instructions that end the program with a value.
 fn push_return(code: &mut List<Instr>, value: &Expr) -> Result<(), NoMemory>
+    requires { IsSum value.now.kind }
     ensures { OnOk result (Grows (run_kind (StmtKind.Return value.now)) code.old code.new) }
 {
     push_constant(code, RETURNED, evaluate(value))?;
@@ -60,6 +64,7 @@ fn push_stmt(code: &mut List<Instr>, stmt: &Stmt) -> Result<(), NoMemory>
     match &stmt.kind {
         StmtKind::Return(value) => push_return(code, value),
         StmtKind::SharedStore(_, address, value) => push_store(code, address, value),
+        _ => unreachable!(),
     }
 }
 

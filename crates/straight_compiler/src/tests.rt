@@ -1,19 +1,15 @@
 //! The images of known programs, and the words of known constants.
 
-ghost use Rattle.std.specs.Prelude.{◌≡◌, ℕ, List, [], ◌∷◌, ◌≤◌, map, sum, IfOk};
-ghost use Rattle.pan_tree.specs.Weight.{expr_weight, stmt_weight, weight};
-ghost use Rattle.pan_tree.specs.declared.spanned.Spanned.{Spanned};
-ghost use Rattle.pan_tree.specs.declared.syntax.ExprKind.{ExprKind};
-ghost use Rattle.straight_form.specs.Form.{IsSum, IsBody, IsStraight};
-
 use crate::compiling::compile;
 use crate::constants::push_constant;
-use crate::evaluating::evaluate;
 use crate::words::spell;
-use pan_base::{BinOp, Boxed, List, NoMemory, Size, Span, Text, single};
-use pan_tree::{BlockOf, Expr, ExprKind, Function, Program, Shape, Spanned, Stmt, StmtKind};
+use pan_base::{BinOp, Blob, Boxed, List, NoMemory, Size, Span, Text, single};
+use pan_tree::{
+    BlockOf, Expr, ExprKind, Function, Program, Shape, Spanned, Stmt, StmtKind, weight,
+};
 use std::alloc::Global;
 use std::test::Fail;
+use straight_form::is_straight;
 
 const NOWHERE: Span = Span { start: 0, end: 0 };
 
@@ -48,10 +44,7 @@ const CONSTANTS: [(u64, &[u32]); 6] = [
 ];
 
 /// The expression of this number.
-fn number(number: u64) -> Expr
-    ensures form { IsSum result.kind (number ∷ []) }
-    ensures light { expr_weight result ≡ 2 }
-{
+fn number(number: u64) -> Expr {
     Spanned {
         kind: ExprKind::Number(number),
         span: NOWHERE,
@@ -59,22 +52,15 @@ fn number(number: u64) -> Expr
 }
 
 /// `return value;`
-fn returning(value: u64) -> Stmt
-    ensures form { (e : Spanned ExprKind) × (result.kind ≡ StmtKind.Return e) × IsSum e.kind (value ∷ []) }
-    ensures light { stmt_weight result ≡ 6 }
-{
+fn returning(value: Expr) -> Stmt {
     Spanned {
-        kind: StmtKind::Return(number(value)),
+        kind: StmtKind::Return(value),
         span: NOWHERE,
     }
 }
 
 /// `!st64 address, value;`
-fn storing(address: u64, value: u64) -> Stmt
-    ensures form { (a : Spanned ExprKind) × (e : Spanned ExprKind)
-        × (result.kind ≡ StmtKind.SharedStore Size.B8 a e) × IsSum a.kind (address ∷ []) × IsSum e.kind (value ∷ []) }
-    ensures light { stmt_weight result ≡ 8 }
-{
+fn storing(address: u64, value: u64) -> Stmt {
     Spanned {
         kind: StmtKind::SharedStore(Size::B8, number(address), number(value)),
         span: NOWHERE,
@@ -82,11 +68,7 @@ fn storing(address: u64, value: u64) -> Stmt
 }
 
 /// The program whose main function has these statements.
-fn program(alloc: Global, stmts: List<Stmt>) -> Result<Program, NoMemory>
-    ensures form { IfOk result
-        (λ p. (stores : List (List ℕ × List ℕ)) (sum : List ℕ) → IsBody stmts stores sum → IsStraight p stores sum) }
-    ensures light { IfOk result (λ p. sum (map stmt_weight stmts) ≤ 16379 → weight p ≤ 16384) }
-{
+fn program(alloc: Global, stmts: List<Stmt>) -> Result<Program, NoMemory> {
     let main = Function {
         name: Text::from_str(alloc, "main")?,
         params: List::new(alloc),
@@ -100,36 +82,43 @@ fn program(alloc: Global, stmts: List<Stmt>) -> Result<Program, NoMemory>
     })
 }
 
-/// `fun main() { return value; }`
-fn return_program(alloc: Global, value: u64) -> Result<Program, NoMemory>
-    ensures form { IfOk result (λ p. IsStraight p [] (value ∷ [])) }
-    ensures light { IfOk result (λ p. weight p ≤ 16384) }
-{
-    let stmts = single(alloc, returning(value))?;
+/// The image of the program whose main function has these statements.
+fn image(alloc: Global, stmts: List<Stmt>) -> Result<Blob, Fail> {
     let program = program(alloc, stmts)?;
-    Ok(program)
-}
-
-/// `fun main() { !st64 address, stored; return value; }`
-fn store_program(alloc: Global, address: u64, stored: u64, value: u64) -> Result<Program, NoMemory>
-    ensures form { IfOk result (λ p. IsStraight p ((address ∷ [], stored ∷ []) ∷ []) (value ∷ [])) }
-    ensures light { IfOk result (λ p. weight p ≤ 16384) }
-{
-    let mut stmts = single(alloc, storing(address, stored))?;
-    stmts.push(returning(value))?;
-    let program = program(alloc, stmts)?;
-    Ok(program)
+    if !is_straight(&program) {
+        return Err("not straight".into());
+    }
+    if weight(&program) > 16_384 {
+        return Err("too heavy".into());
+    }
+    let image = compile(alloc, &program)?;
+    Ok(image)
 }
 
 #[test]
 fn makes_images(rt: HostRuntime) -> Result<(), Fail> {
     let alloc = rt.alloc();
-    let program = return_program(alloc, 7)?;
-    let image = compile(alloc, &program)?;
-    assert_eq!(rt; image.as_slice(), RETURN_7.as_slice());
-    let program = store_program(alloc, 0x4000_0000, 1, 0)?;
-    let image = compile(alloc, &program)?;
-    assert_eq!(rt; image.as_slice(), STORE_1.as_slice());
+    let built = image(alloc, single(alloc, returning(number(7)))?)?;
+    assert_eq!(rt; built.as_slice(), RETURN_7.as_slice());
+    let mut stmts = single(alloc, storing(0x4000_0000, 1))?;
+    stmts.push(returning(number(0)))?;
+    let built = image(alloc, stmts)?;
+    assert_eq!(rt; built.as_slice(), STORE_1.as_slice());
+    Ok(())
+}
+
+/// A sum wraps at 2^64.
+#[test]
+fn evaluates_sums(rt: HostRuntime) -> Result<(), Fail> {
+    let alloc = rt.alloc();
+    let mut terms = single(alloc, (BinOp::Add, number(5)))?;
+    terms.push((BinOp::Add, number(u64::MAX)))?;
+    let sum = Spanned {
+        kind: ExprKind::Chain(Boxed::new(alloc, number(3))?, terms),
+        span: NOWHERE,
+    };
+    let built = image(alloc, single(alloc, returning(sum))?)?;
+    assert_eq!(rt; built.as_slice(), RETURN_7.as_slice());
     Ok(())
 }
 
@@ -152,19 +141,5 @@ fn makes_constants(rt: HostRuntime) -> Result<(), Fail> {
         let want = bytes_of(alloc, want)?;
         assert_eq!(rt; bytes.as_slice(), want.as_slice(), "at {word}");
     }
-    Ok(())
-}
-
-/// A sum wraps at 2^64.
-#[test]
-fn evaluates_sums(rt: HostRuntime) -> Result<(), Fail> {
-    let alloc = rt.alloc();
-    let mut terms = single(alloc, (BinOp::Add, number(5)))?;
-    terms.push((BinOp::Add, number(u64::MAX)))?;
-    let sum = Spanned {
-        kind: ExprKind::Chain(Boxed::new(alloc, number(3))?, terms),
-        span: NOWHERE,
-    };
-    assert_eq!(rt; evaluate(&sum), 7);
     Ok(())
 }

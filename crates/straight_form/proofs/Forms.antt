@@ -26,26 +26,26 @@ Terms = List (BinOp × Spanned ExprKind)
 same_one : (f g : Expr) (ts us : Terms) → one.Chain f ts ≡ one.Chain g us → (f ≡ g) × (ts ≡ us)
 same_one f g ts us e = (cc, cc)
 
-same_chain : (f g : Expr) (ts us : Terms) → expr.Chain f ts ≡ expr.Chain g us → (f ≡ g) × (ts ≡ us)
+pub same_chain : (f g : Expr) (ts us : Terms) → expr.Chain f ts ≡ expr.Chain g us → (f ≡ g) × (ts ≡ us)
 same_chain f g ts us e =
     same_one f g ts us (sym (out-roll-ExprKind (one.Chain f ts)) ∙ ap out-ExprKind (expr.rolls-Chain f ts ∙ e ∙ sym (expr.rolls-Chain g us)) ∙ out-roll-ExprKind (one.Chain g us))
 
 same_one_store : (m n : Size) (a b x y : Expr) (p q : StmtKind-F StmtKind) → p ≡ one_stmt.SharedStore m a x → q ≡ one_stmt.SharedStore n b y → p ≡ q → (m ≡ n) × (a ≡ b) × (x ≡ y)
 same_one_store m n a b x y p q e f g = (cc, cc, cc)
 
-same_store : (m n : Size) (a b x y : Expr) → stmt.SharedStore m a x ≡ stmt.SharedStore n b y → (m ≡ n) × (a ≡ b) × (x ≡ y)
+pub same_store : (m n : Size) (a b x y : Expr) → stmt.SharedStore m a x ≡ stmt.SharedStore n b y → (m ≡ n) × (a ≡ b) × (x ≡ y)
 same_store m n a b x y e =
     same_one_store m n a b x y _ _ (out-roll-StmtKind (one_stmt.SharedStore m a x)) (out-roll-StmtKind (one_stmt.SharedStore n b y)) (ap out-StmtKind (stmt.rolls-SharedStore m a x ∙ e ∙ sym (stmt.rolls-SharedStore n b y)))
 
 same_one_return : (x y : Expr) (p q : StmtKind-F StmtKind) → p ≡ one_stmt.Return x → q ≡ one_stmt.Return y → p ≡ q → x ≡ y
 same_one_return x y p q e f g = cc
 
-same_return : (x y : Expr) → stmt.Return x ≡ stmt.Return y → x ≡ y
+pub same_return : (x y : Expr) → stmt.Return x ≡ stmt.Return y → x ≡ y
 same_return x y e = same_one_return x y _ _ (out-roll-StmtKind (one_stmt.Return x)) (out-roll-StmtKind (one_stmt.Return y)) (ap out-StmtKind (stmt.rolls-Return x ∙ e ∙ sym (stmt.rolls-Return y)))
 
 -- ---- sums
 
-chain_no_number : (f : Expr) (ts : Terms) (n : ℕ) → expr.Chain f ts ≡ expr.Number n → ⊥
+pub chain_no_number : (f : Expr) (ts : Terms) (n : ℕ) → expr.Chain f ts ≡ expr.Number n → ⊥
 chain_no_number f ts n e = cc
 
 pub chain_is_sum : (k : ExprKind) (f g : Expr) (ts us : Terms) → k ≡ expr.Chain f ts → g ≡ f → us ≡ ts → IsNumber g.kind → AreTerms us → IsSum k

@@ -1,1 +1,1 @@
-mod Forms
+pub mod Forms

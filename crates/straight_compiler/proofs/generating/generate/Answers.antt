@@ -1,4 +1,7 @@
-use Rattle.std.proofs.Common.{arith}
+use Rattle.std.proofs.Common.{arith, sym, subst}
+use Rattle.pan_tree.specs.declared.spanned.Spanned.{Spanned}
+use Rattle.pan_tree.specs.declared.syntax.StmtKind.{StmtKind}
+use Rattle.straight_compiler.specs.Performs.{IsPlain}
 use Rattle.straight_compiler.proofs.Turns.{grown_length, completes_more, completes_all}
 use Rattle.straight_compiler.proofs.generating.generate.Goals as goal
 
@@ -10,3 +13,6 @@ loop-stmt-preserved c = record {
 
 pub returns-clause-performs : goal.returns-clause-performs
 returns-clause-performs c = completes_all c.args.stmts.now c.loop-stmt.stmt-index c.loop-stmt.code (omega arith) c.loop-stmt.invariant.completes
+
+pub push_stmt-requires : goal.push_stmt-requires
+push_stmt-requires c = subst (λ (s : Spanned StmtKind). IsPlain s.kind) (sym c.stmt-item.is) (c.requires c.loop-stmt.stmt-index c.stmt-item.result c.loop-stmt-test.true)

@@ -2,7 +2,7 @@ use Rattle.std.proofs.Common.{◌≡◌, ℕ, List, Some, map, drop}
 use Rattle.pan_tree.specs.Value.{Scopes}
 use Rattle.pan_tree.specs.Meaning.{chain, word}
 use Rattle.straight_compiler.proofs.Chains.{given}
-use Rattle.straight_compiler.proofs.evaluating.+evaluate.Given as goal
+use Rattle.straight_compiler.proofs.evaluating.evaluate.Given as goal
 
 -- the terms that are left make the whole word
 abbrev pub invariant-loop-op : goal.invariant-loop-op
