@@ -6,7 +6,8 @@ use Rattle.pan_base.specs.Sinks.{Took}
 use Rattle.pan_tree.specs.declared.program.Program.{Program}
 use Rattle.pan_command.specs.declared.status.Status.{Status}
 use Rattle.pan_command.specs.declared.status.Status.TheVariants as status
-use Rattle.pan_command.specs.Served.{IsServed, IsRefused}
+use Rattle.pan_command.specs.Served.{IsServed, Refuses, source_line}
+use Rattle.pan_command.specs.declared.error.BuildError.{BuildError}
 use Rattle.pan_command.specs.Status.{code, IsCompileCode}
 use Rattle.pan_command.specs.Words.{AreLawful}
 use Rattle.pan_command.specs.Outside.{Outside, Holds, Lacks, NoFault}
@@ -109,22 +110,25 @@ module _ (before after : Outside) (all : Files) (source image : List ℕ) (told 
   served_ends bytes program there served status.NoScript h = absurd h
   served_ends bytes program there served (status.Ran end) h = absurd h
   served_ends bytes program there served status.Unread h = absurd (elim h.cause [ inl r ↦ fine.reads r | inr l ↦ not_lacks _ all source bytes told there l ])
-  served_ends bytes program there served status.Refused h = absurd (h.refused program (subst (λ b. IsServed b program) (sym (same_bytes _ all source bytes h.bytes told there h.held)) served))
+  served_ends bytes program there served status.Refused h = absurd (h.unserved program (subst (λ b. IsServed b program) (sym (same_bytes _ all source bytes h.bytes told there h.held)) served))
   served_ends bytes program there served status.Unwritten h = absurd (fine.writes h.cause)
   served_ends bytes program there served status.Unput h = absurd (fine.puts h.cause)
   served_ends bytes program there served status.NoMemory h = inr refl
 
-  refused_ends : (bytes : List ℕ) → all source ≡ Some bytes → IsRefused bytes → (s : Status) → CompileEnds source image before after s → (code s ≡ 4) ⊎ (code s ≡ 8)
-  refused_ends bytes there refused status.Done h = absurd (refused (h.built).program (subst (λ b. IsServed b (h.built).program) (same_bytes _ all source bytes (h.built).bytes told there (h.built).held) (h.built).served))
-  refused_ends bytes there refused status.Usage h = absurd h
-  refused_ends bytes there refused status.NoImage h = absurd h
-  refused_ends bytes there refused status.NoScript h = absurd h
-  refused_ends bytes there refused (status.Ran end) h = absurd h
-  refused_ends bytes there refused status.Unread h = absurd (elim h.cause [ inl r ↦ fine.reads r | inr l ↦ not_lacks _ all source bytes told there l ])
-  refused_ends bytes there refused status.Refused h = inl refl
-  refused_ends bytes there refused status.Unwritten h = absurd (fine.writes h.cause)
-  refused_ends bytes there refused status.Unput h = absurd (fine.puts h.cause)
-  refused_ends bytes there refused status.NoMemory h = inr refl
+  refused_ends : (bytes : List ℕ) (e : BuildError) → all source ≡ Some bytes → Refuses bytes e → (s : Status) → CompileEnds source image before after s
+      → ((code s ≡ 4) × Took before.out after.out (source_line e)) ⊎ (code s ≡ 8)
+  refused_ends bytes e there refused status.Done h = absurd ((h.built).accepted e (subst (λ b. Refuses b e) (sym (same_bytes _ all source bytes (h.built).bytes told there (h.built).held)) refused))
+  refused_ends bytes e there refused status.Usage h = absurd h
+  refused_ends bytes e there refused status.NoImage h = absurd h
+  refused_ends bytes e there refused status.NoScript h = absurd h
+  refused_ends bytes e there refused (status.Ran end) h = absurd h
+  refused_ends bytes e there refused status.Unread h = absurd (elim h.cause [ inl r ↦ fine.reads r | inr l ↦ not_lacks _ all source bytes told there l ])
+  refused_ends bytes e there refused status.Refused h =
+      let same = h.only e (subst (λ b. Refuses b e) (sym (same_bytes _ all source bytes h.bytes told there h.held)) refused) in
+      inl (refl, subst (λ r. Took before.out after.out (source_line r)) (sym same) h.line)
+  refused_ends bytes e there refused status.Unwritten h = absurd (fine.writes h.cause)
+  refused_ends bytes e there refused status.Unput h = absurd (fine.puts h.cause)
+  refused_ends bytes e there refused status.NoMemory h = inr refl
 
   missing_ends : all source ≡ None → (s : Status) → CompileEnds source image before after s → (code s ≡ 3) ⊎ (code s ≡ 8)
   missing_ends gone status.Done h = absurd (not_held _ all source (h.built).bytes told gone (h.built).held)
@@ -141,8 +145,9 @@ module _ (before after : Outside) (all : Files) (source image : List ℕ) (told 
   pub completes : (words : List (List ℕ)) (s : Status) (bytes : List ℕ) (program : Program) → AreLawful (codes "compile") words source image → all source ≡ Some bytes → IsServed bytes program → Ends words before after s → (code s ≡ 0) ⊎ (code s ≡ 8)
   completes words s bytes program lawful there served h = served_ends bytes program there served s (compiles before after source image words s lawful h)
 
-  pub refuses : (words : List (List ℕ)) (s : Status) (bytes : List ℕ) → AreLawful (codes "compile") words source image → all source ≡ Some bytes → IsRefused bytes → Ends words before after s → (code s ≡ 4) ⊎ (code s ≡ 8)
-  refuses words s bytes lawful there refused h = refused_ends bytes there refused s (compiles before after source image words s lawful h)
+  pub refuses : (words : List (List ℕ)) (s : Status) (bytes : List ℕ) (e : BuildError) → AreLawful (codes "compile") words source image → all source ≡ Some bytes → Refuses bytes e → Ends words before after s
+      → ((code s ≡ 4) × Took before.out after.out (source_line e)) ⊎ (code s ≡ 8)
+  refuses words s bytes e lawful there refused h = refused_ends bytes e there refused s (compiles before after source image words s lawful h)
 
   pub misses : (words : List (List ℕ)) (s : Status) → AreLawful (codes "compile") words source image → all source ≡ None → Ends words before after s → (code s ≡ 3) ⊎ (code s ≡ 8)
   misses words s lawful gone h = missing_ends gone s (compiles before after source image words s lawful h)

@@ -8,3 +8,4 @@ pub mod Storing
 pub mod UsedReplies
 pub mod WordLemmas
 pub mod WrongImage
+pub mod Reasons

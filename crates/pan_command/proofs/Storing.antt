@@ -8,7 +8,8 @@ use Rattle.pan_tree.specs.declared.program.Program.{Program}
 use Rattle.pan_agree.specs.Faithful.{Faithful}
 use Rattle.pan_command.specs.declared.status.Status.{Status}
 use Rattle.pan_command.specs.declared.status.Status.TheVariants as status
-use Rattle.pan_command.specs.Served.{IsServed}
+use Rattle.pan_command.specs.Served.{IsServed, Refuses}
+use Rattle.pan_command.specs.declared.error.BuildError.{BuildError}
 use Rattle.pan_command.specs.Outside.{Outside, Holds}
 use Rattle.pan_command.specs.Compile.{Built, CompileEnds, StoreEnds}
 
@@ -29,9 +30,9 @@ stored_below_after limit None (Some g) c name bytes same stored = absurd same
 stored_below_after limit (Some f) None c name bytes same stored = absurd same
 stored_below_after limit (Some f) (Some g) None name bytes same stored = absurd stored
 
-module _ (before mid after : Outside) (source name bytes : List ℕ) (image : List ℕ) (held : Holds (before.files).files source bytes) (built : (program : Program) × IsServed bytes program × Faithful program image None) (same : NoneChanged (before.files).files (mid.files).files) (writes : (mid.files).failed_writes ≡ (before.files).failed_writes) (out : mid.out ≡ before.out) where
+module _ (before mid after : Outside) (source name bytes : List ℕ) (image : List ℕ) (held : Holds (before.files).files source bytes) (built : (program : Program) × IsServed bytes program × Faithful program image None) (accepted : (e : BuildError) → ¬ Refuses bytes e) (same : NoneChanged (before.files).files (mid.files).files) (writes : (mid.files).failed_writes ≡ (before.files).failed_writes) (out : mid.out ≡ before.out) where
   abbrev made : Built before source
-  made = record { bytes = bytes; held = held; program = built.0; served = built.1; image = image; bound = None; unbounded = refl; faithful = built.2 }
+  made = record { bytes = bytes; held = held; program = built.0; served = built.1; accepted = accepted; image = image; bound = None; unbounded = refl; faithful = built.2 }
 
   took : (line : List ℕ) → Took mid.out after.out line → Took before.out after.out line
   took line h = subst (λ o. Took o after.out line) out h

@@ -3,7 +3,7 @@ use Rattle.std.proofs.Common.{arith, ◌≡◌, ◌⊎◌, inl, inr, ℕ, zero, 
 use Rattle.pan_base.specs.Events.{Ending, Exit, Spent, Stack, Fails, Behaviour, only}
 use Rattle.pan_tree.specs.declared.syntax.ExprKind.TheVariants as expr
 use Rattle.pan_tree.specs.Value.{Word, Value, Scopes}
-use Rattle.pan_tree.specs.Meaning.{source, seen, start}
+use Rattle.pan_tree.specs.Meaning.{Does as StmtDoes, source, seen, start}
 use Rattle.pan_control.specs.World.{World, entered}
 use Rattle.pan_tree.specs.Weight.{cost}
 use Rattle.pan_control.specs.Control.{Outcome, Normal, Returned, and_then, with_value, left}
@@ -14,8 +14,9 @@ use Rattle.riscv_isa.specs.Image.{ImageOf}
 use Rattle.pan_agree.specs.Agree.{Overflows}
 use Rattle.pan_agree.specs.Faithful.{Faithful}
 use Rattle.straight_compiler.proofs.Chains.{value_number}
+use Rattle.straight_compiler.proofs.Statements.{return_is}
 use Rattle.image_file.proofs.WrittenLaws.{same_image}
-use Rattle.pan_command.specs.Sample.{main_of_seven, returns_seven, exits_at_once}
+use Rattle.pan_command.specs.Sample.{nowhere, main_of_seven, returns_seven, exits_at_once}
 
 begun : World
 begun = entered (cost main_of_seven) (start [] [] 1)
@@ -26,9 +27,13 @@ main_then o = and_then (with_value o begun (λ a. Returned a begun)) (λ v w. No
 given : Option Value → Behaviour
 given o = (seen (left (main_then o))).behaviour
 
+-- what is seen of a main function whose one statement does this
+shows : StmtDoes → Behaviour
+shows m = (seen (left (and_then (m ([] ∷ []) begun) (λ v w. Normal v w)))).behaviour
+
 returns : (source returns_seven [] [] 1).behaviour ≡ only (Exit 7)
-unfolding given main_then begun
-returns = ap given (value_number 7 ([] ∷ []) [])
+unfolding given main_then begun shows
+returns = ap shows (return_is (record { kind = expr.Number 7; span = nowhere })) ∙ ap given (value_number 7 ([] ∷ []) [])
 
 ends : step (booted exits_at_once [] [] 0) ≡ Over (Exit 0)
 unfolding step decoded reg

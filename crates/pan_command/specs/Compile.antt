@@ -8,7 +8,8 @@ use Rattle.pan_tree.specs.declared.program.Program.{Program}
 use Rattle.pan_agree.specs.Faithful.{Faithful}
 use Rattle.pan_command.specs.declared.status.Status.{Status}
 use Rattle.pan_command.specs.declared.status.Status.TheVariants as status
-use Rattle.pan_command.specs.Served.{IsServed, IsRefused}
+use Rattle.pan_command.specs.Served.{IsServed, Refuses, source_line}
+use Rattle.pan_command.specs.declared.error.BuildError.{BuildError}
 use Rattle.pan_command.specs.Outside.{Outside, Holds, Lacks}
 
 -- the line of a bound
@@ -22,6 +23,7 @@ pub record Built (before : Outside) (source : List ℕ) : Type 0 where
   pub held : Holds (before.files).files source bytes
   pub program : Program
   pub served : IsServed bytes program
+  pub accepted : (e : BuildError) → ¬ Refuses bytes e
   pub image : List ℕ
   pub bound : Option ℕ
   -- no image has a bound so far
@@ -42,13 +44,16 @@ pub record Unread (Prints : List ℕ → Type 0) (before after : Outside) (sourc
   pub same : NoneChanged (before.files).files (after.files).files
   pub line : Prints (codes "read " ++ source ++ codes "\n")
 
--- the source is refused
+-- the source is refused, for this reason and no other
 pub record Refused (Prints : List ℕ → Type 0) (before after : Outside) (source : List ℕ) : Type 0 where
   pub bytes : List ℕ
   pub held : Holds (before.files).files source bytes
-  pub refused : IsRefused bytes
+  pub reason : BuildError
+  pub refused : Refuses bytes reason
+  pub only : (e : BuildError) → Refuses bytes e → e ≡ reason
+  pub unserved : (program : Program) → ¬ IsServed bytes program
   pub same : NoneChanged (before.files).files (after.files).files
-  pub line : Prints (codes "0 Unsupported\n")
+  pub line : Prints (source_line reason)
 
 -- the image could not be written: its file is as before, or has a prefix of a faithful image
 pub record Unwritten (Prints : List ℕ → Type 0) (before after : Outside) (source image : List ℕ) : Type 0 where

@@ -1,4 +1,5 @@
 pub mod Status
+pub mod Inner
 pub mod Served
 pub mod Words
 pub mod Outside

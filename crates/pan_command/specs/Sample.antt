@@ -7,7 +7,7 @@ use Rattle.pan_tree.specs.declared.syntax.StmtKind.TheVariants as stmt
 use Rattle.pan_tree.specs.declared.program.Function.{Function}
 use Rattle.pan_tree.specs.declared.program.Program.{Program}
 
-abbrev nowhere : Span
+abbrev pub nowhere : Span
 nowhere = record { start = 0; end = 0 }
 
 -- fun main() { return 7; }

@@ -1,37 +1,45 @@
 //! From the bytes of a source to its image.
 
-ghost use Rattle.std.specs.Prelude.{◌≡◌, None, IfOk, IfSome, IfNone};
+ghost use Rattle.std.specs.Prelude.{◌≡◌, ◌⊎◌, None, Err, IfOk, IfErr};
 ghost use Rattle.pan_tree.specs.declared.program.Program.{Program};
 ghost use Rattle.pan_agree.specs.Faithful.{Faithful};
-ghost use Rattle.pan_command.specs.Served.{IsServed, IsRefused};
+ghost use Rattle.pan_command.specs.Served.{IsServed, Refuses};
+ghost use Rattle.pan_command.specs.declared.error.BuildError.{BuildError as IsBuildError};
 
-use pan_base::{Blob, NoMemory};
+use crate::error::BuildError;
+use pan_base::Blob;
+use pan_lexer::lex;
+use pan_parser::parse;
 use pan_tree::weight;
 use std::alloc::Global;
 use straight_compiler::compile;
-use straight_reader::{one_weight, read};
-
-/// How many bytes a source may have.
-const SOURCE_LIMIT: usize = 1_048_576;
+use straight_form::is_straight;
 
 /// What a program may weigh.
 const WEIGHT_LIMIT: u64 = 16_384;
 
-/// The image of a source, or `None` where the source is refused.
-pub fn build(alloc: Global, source: &[u8]) -> Result<Option<Blob>, NoMemory>
-    ensures built { IfOk result (λ answer. IfSome answer (λ image. (program : Program) × IsServed source.now program × Faithful program image None)) }
-    ensures refused { IfOk result (λ answer. IfNone answer (IsRefused source.now)) }
+/// The image of a source.
+///
+/// # Errors
+///
+/// The first that applies: `Lex` where the source has no tokens, `Parse` where they spell no program, `Unsupported` where
+/// the program isn't straight-line or weighs more than 16,384. `NoMemory` may come in place of any answer.
+pub fn build(alloc: Global, source: &[u8]) -> Result<Blob, BuildError>
+    ensures built { IfOk result (λ image. (program : Program) × IsServed source.now program × Faithful program image None) }
+    ensures refused { IfErr result (λ e. (e ≡ BuildError.NoMemory) ⊎ Refuses source.now e) }
+
+    // which answer comes
+    ensures served { (program : Program) → IsServed source.now program → IfErr result (λ e. e ≡ BuildError.NoMemory) }
+    ensures exact { (e : IsBuildError) → Refuses source.now e → (result ≡ Err e) ⊎ (result ≡ Err BuildError.NoMemory) }
 {
-    if source.len() > SOURCE_LIMIT {
-        return Ok(None);
+    let tokens = lex(alloc, source)?;
+    let program = parse(alloc, &tokens)?;
+    if !is_straight(&program) {
+        return Err(BuildError::Unsupported);
     }
-    let Some(program) = read(alloc, source)? else {
-        return Ok(None);
-    };
-    one_weight();
     if weight(&program) > WEIGHT_LIMIT {
-        return Ok(None);
+        return Err(BuildError::Unsupported);
     }
     let image = compile(alloc, &program)?;
-    Ok(Some(image))
+    Ok(image)
 }

@@ -6,7 +6,8 @@ ghost use Rattle.pan_base.specs.Events.{Replied, end_of};
 ghost use Rattle.pan_base.specs.Files.{Files, NoneChanged};
 ghost use Rattle.pan_base.specs.Sinks.{Took};
 ghost use Rattle.pan_tree.specs.declared.program.Program.{Program};
-ghost use Rattle.pan_command.specs.Served.{IsServed, IsRefused};
+ghost use Rattle.pan_command.specs.Served.{IsServed, Refuses, source_line};
+ghost use Rattle.pan_command.specs.declared.error.BuildError.{BuildError as IsBuildError};
 ghost use Rattle.pan_command.specs.Status.{code, end_code, IsCompileCode};
 ghost use Rattle.pan_command.specs.Words.{is_plain, AreLawful, AreUnlawful};
 ghost use Rattle.pan_command.specs.Outside.{outside, NoFault};
@@ -20,11 +21,12 @@ ghost use Rattle.reply_file.specs.Replies.{replies_of_file};
 ghost use Rattle.pan_command.specs.declared.status.Status.{Status};
 
 use crate::building::build;
-use crate::lines::put_line;
+use crate::error::BuildError;
+use crate::lines::{put_line, put_source_line};
 use crate::loading::read_file;
 use crate::running::run;
 use crate::status::Status;
-use pan_base::{FileError, NoMemory, Sink, SinkFault, Text, Workspace, put_all};
+use pan_base::{FileError, Sink, SinkFault, Text, Workspace, put_all};
 use std::alloc::Global;
 
 /// Writes the image that was built, and puts the line of its bound.
@@ -65,12 +67,12 @@ fn compile<W: Workspace, O: Sink>(
         Err(status) => return status,
     };
     match build(alloc, bytes.as_slice()) {
-        Ok(Some(built)) => store(alloc, image, built.as_slice(), files, out),
-        Ok(None) => match put_all(out, b"0 Unsupported\n") {
+        Ok(built) => store(alloc, image, built.as_slice(), files, out),
+        Err(BuildError::NoMemory) => Status::NoMemory,
+        Err(error) => match put_source_line(out, error) {
             Ok(()) => Status::Refused,
             Err(SinkFault) => Status::Unput,
         },
-        Err(NoMemory) => Status::NoMemory,
     }
 }
 
@@ -123,8 +125,9 @@ fn act<W: Workspace, O: Sink>(alloc: Global, words: &[Text], files: &mut W, out:
 /// - 0: the image is written, and `bound none` is put; or the run ended by an exit, and its lines are put;
 /// - 2: the words are no action's, and `usage` is put. The names may not begin with `-`;
 /// - 3: a file could not be read, and `read NAME` is put;
-/// - 4: the source is refused, and `0 Unsupported` is put: it has more than 1,048,576 bytes, isn't a straight-line source,
-///   or weighs more than 16,384;
+/// - 4: the source is refused, and `PLACE CAUSE` is put, the place in bytes from 0 on: it has no tokens (`TooLong`,
+///   `BadByte`, `BadNumber`, `OpenComment`), they spell no program (`Syntax`, `TooDeep`), or the program isn't
+///   straight-line or weighs more than 16,384 (`0 Unsupported`);
 /// - 5: the bytes of IMG are no image, and `image CAUSE` is put;
 /// - 6: a line of SCRIPT fits no rule, and `script LINE CAUSE` is put for the first;
 /// - 7: IMG could not be written, and `write IMG` is put, or a line could not be put;
@@ -161,9 +164,10 @@ pub fn panc<W: Workspace, O: Sink>(alloc: Global, words: &[Text], files: &mut W,
     ensures complete { (source image bytes : List ℕ) (program : Program) (all : Files) → AreLawful (codes "compile") words.now source image
         → (W.state files.old).files ≡ Some all → all source ≡ Some bytes → IsServed bytes program
         → NoFault (outside (W.state files.old) (O.state out.old)) (outside (W.state files.new) (O.state out.new)) → (result ≡ 0) ⊎ (result ≡ 8) }
-    ensures refused_always { (source image bytes : List ℕ) (all : Files) → AreLawful (codes "compile") words.now source image
-        → (W.state files.old).files ≡ Some all → all source ≡ Some bytes → IsRefused bytes
-        → NoFault (outside (W.state files.old) (O.state out.old)) (outside (W.state files.new) (O.state out.new)) → (result ≡ 4) ⊎ (result ≡ 8) }
+    ensures refused_always { (source image bytes : List ℕ) (e : IsBuildError) (all : Files) → AreLawful (codes "compile") words.now source image
+        → (W.state files.old).files ≡ Some all → all source ≡ Some bytes → Refuses bytes e
+        → NoFault (outside (W.state files.old) (O.state out.old)) (outside (W.state files.new) (O.state out.new))
+        → ((result ≡ 4) × Took (O.state out.old) (O.state out.new) (source_line e)) ⊎ (result ≡ 8) }
     ensures missing_always { (source image : List ℕ) (all : Files) → AreLawful (codes "compile") words.now source image
         → (W.state files.old).files ≡ Some all → all source ≡ None
         → NoFault (outside (W.state files.old) (O.state out.old)) (outside (W.state files.new) (O.state out.new)) → (result ≡ 3) ⊎ (result ≡ 8) }

@@ -3,6 +3,7 @@
 
 mod building;
 mod command;
+mod error;
 mod laws;
 mod lines;
 mod loading;
@@ -12,4 +13,5 @@ mod status;
 mod tests;
 
 pub use command::panc;
+pub use error::BuildError;
 pub use laws::refuses_a_wrong_image;

@@ -4,10 +4,14 @@ ghost use Rattle.std.specs.Prelude.{◌≡◌, ◌++◌, codes, ◌≢◌};
 ghost use Rattle.pan_base.specs.Causes.{HasCause};
 ghost use Rattle.pan_base.specs.Sinks.{PutsAll};
 ghost use Rattle.pan_command.specs.Run.{field_text, cause_text, image_line, script_line};
+ghost use Rattle.pan_command.specs.Served.{caused, source_line};
 
+use crate::error::BuildError;
 use image_file::{FieldName, ImageError};
 use itoa::Buffer;
 use pan_base::{Sink, SinkFault, put_all, put_each};
+use pan_lexer::LexError;
+use pan_parser::ParseError;
 use reply_file::Cause;
 
 /// Puts a word, a name and a line feed.
@@ -73,4 +77,33 @@ pub fn put_script_line<O: Sink>(out: &mut O, line: u64, cause: Cause) -> Result<
             b"\n",
         ],
     )
+}
+
+/// The place and the name of what is wrong with a source.
+fn place_and_cause(error: BuildError) -> (u32, &'static str)
+    ensures { caused result.0 result.1.now ≡ source_line error }
+{
+    match error {
+        BuildError::Lex(LexError::TooLong) => (0, "TooLong"),
+        BuildError::Lex(LexError::BadByte(place)) => (place, "BadByte"),
+        BuildError::Lex(LexError::BadNumber(place)) => (place, "BadNumber"),
+        BuildError::Lex(LexError::OpenComment(place)) => (place, "OpenComment"),
+        BuildError::Parse(ParseError::Syntax(place)) => (place, "Syntax"),
+        BuildError::Parse(ParseError::TooDeep(place)) => (place, "TooDeep"),
+        BuildError::Unsupported => (0, "Unsupported"),
+        BuildError::Lex(LexError::NoMemory)
+        | BuildError::Parse(ParseError::NoMemory)
+        | BuildError::NoMemory => (0, "NoMemory"),
+    }
+}
+
+/// Puts the line of a refused source.
+pub fn put_source_line<O: Sink>(out: &mut O, error: BuildError) -> Result<(), SinkFault>
+    ensures took { PutsAll (O.state out.old) (O.state out.new) result (source_line error) }
+    ensures cause { HasCause (O.state out.old).faults (O.state out.new).faults result }
+{
+    let (place, cause) = place_and_cause(error);
+    let mut buffer = Buffer::new();
+    let number = buffer.format(place);
+    put_each(out, &[number.as_bytes(), b" ", cause.as_bytes(), b"\n"])
 }
