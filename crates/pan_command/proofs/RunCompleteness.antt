@@ -14,8 +14,7 @@ use Rattle.pan_command.specs.declared.status.Status.TheVariants as status
 use Rattle.pan_command.specs.Status.{code, end_code}
 use Rattle.pan_command.specs.Words.{AreLawful}
 use Rattle.pan_command.specs.Outside.{Outside, NoFault}
-use Rattle.pan_command.specs.Run.{RunEnds, RunCases, FileUnread, NoImage, ScriptRefused, ImageRead, ScriptRead, ran_with, run_memory, run_stack, run_steps}
-use Rattle.pan_command.specs.Going.{behaviour_of}
+use Rattle.pan_command.specs.Run.{RunEnds, RunCases, FileUnread, NoImage, ScriptRefused, ImageRead, ScriptRead, ran_with, behaviour_of, run_memory, run_stack, run_steps}
 use Rattle.pan_command.specs.Command.{Ends}
 use Rattle.pan_command.proofs.Completeness.{same_bytes, not_lacks, other_action, same_names}
 

@@ -14,7 +14,8 @@ use Rattle.pan_command.specs.declared.status.Status.{Status}
 use Rattle.pan_command.specs.declared.status.Status.TheVariants as status
 use Rattle.pan_command.specs.Outside.{Outside, Holds, Lacks}
 use Rattle.pan_command.specs.Run.{ImageRead, ScriptRead, RunCases}
-use Rattle.pan_command.specs.Going.{GoesOut, behaviour_of}
+use Rattle.pan_command.specs.Going.{GoesOut}
+use Rattle.pan_command.specs.Run.{behaviour_of}
 use Rattle.pan_command.specs.Loading.{IsQuiet, ScriptCases}
 use Rattle.pan_command.proofs.Going.{rose_after}
 

@@ -7,13 +7,9 @@ use Rattle.pan_base.specs.Sinks.{SinkState, Took, TookFront}
 use Rattle.pan_base.specs.Trace.{trace_text, end_line}
 use Rattle.riscv_isa.specs.Machine.{machine}
 use Rattle.image_file.specs.Parts.{ImageParts}
-use Rattle.pan_command.specs.Run.{run_memory, run_stack, run_steps}
+use Rattle.pan_command.specs.Run.{run_memory, run_stack, behaviour_of}
 use Rattle.pan_command.specs.declared.status.Status.{Status}
 use Rattle.pan_command.specs.declared.status.Status.TheVariants as status
-
--- what the machine of an image does with these replies
-abbrev pub behaviour_of : ImageParts → List Replied → Behaviour
-behaviour_of image replies = machine image.code image.names run_memory run_stack replies run_steps
 
 -- the text of a behaviour: the lines of its trace, and that of its end
 abbrev pub text_of : Behaviour → List ℕ

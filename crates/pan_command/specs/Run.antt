@@ -10,6 +10,7 @@ use Rattle.pan_base.specs.declared.events.End.{End}
 use Rattle.riscv_isa.specs.Image.{ImageOf}
 use Rattle.riscv_isa.specs.Machine.{machine}
 use Rattle.image_file.specs.Faults.{fault_of}
+use Rattle.image_file.specs.Parts.{ImageParts}
 use Rattle.image_file.specs.declared.error.FieldName.{FieldName}
 use Rattle.image_file.specs.declared.error.FieldName.TheVariants as field
 use Rattle.image_file.specs.declared.error.ImageError.{ImageError}
@@ -103,8 +104,11 @@ pub record ScriptRefused (Prints : List ℕ → Type 0) (before : Outside) (scri
   pub line : Prints (script_line refusal)
 
 -- what the machine of an image does with these replies
+abbrev pub behaviour_of : ImageParts → List Replied → Behaviour
+behaviour_of image replies = machine image.code image.names run_memory run_stack replies run_steps
+
 abbrev pub ran_with : {before : Outside} {image : List ℕ} → ImageRead before image → List Replied → Behaviour
-ran_with i replies = machine i.code i.names run_memory run_stack replies run_steps
+ran_with i replies = behaviour_of (record { code = i.code; names = i.names; bound = i.bound }) replies
 
 -- The machine ran on the replies of the reply file: the lines are those of its trace and its end.
 pub record Ran (Prints : List ℕ → Type 0) (before : Outside) (image script : List ℕ) (end : End) : Type 0 where

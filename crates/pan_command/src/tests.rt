@@ -93,6 +93,46 @@ fn answers(rt: HostRuntime) -> Result<(), Fail> {
     Ok(())
 }
 
+/// What `compile` prints of a source, and its status.
+fn compiled(alloc: Global, source: &str) -> Result<(u8, Blob), NoMemory> {
+    let words = words_of(alloc, "compile a.pan a.img")?;
+    let mut files = files_with(alloc, source, None)?;
+    let mut out = MemSink::new(alloc, 100, List::new(alloc))?;
+    let status = panc(alloc, words.as_slice(), &mut files, &mut out);
+    Ok((status, Blob::from_slice(alloc, out.bytes())?))
+}
+
+#[test]
+fn refuses_sources(rt: HostRuntime) -> Result<(), Fail> {
+    for (source, text) in [
+        (
+            "fun main() { return 18446744073709551616; }",
+            "20 BadNumber\n",
+        ),
+        ("fun main() { return $; }", "20 BadByte\n"),
+        ("/* x", "0 OpenComment\n"),
+        ("fun main() { return 1 + ; }", "24 Syntax\n"),
+        ("fun main() { return 1 +", "23 Syntax\n"),
+        ("fun main() { skip; return 1; }", "0 Unsupported\n"),
+    ] {
+        let (status, line) = compiled(rt.alloc(), source)?;
+        assert_eq!(rt; status, 4, "{source}");
+        assert_eq!(rt; line.as_slice(), text.as_bytes(), "{source}");
+    }
+    Ok(())
+}
+
+/// Comments, and parentheses that make no node, don't matter.
+#[test]
+fn reads_trees(rt: HostRuntime) -> Result<(), Fail> {
+    let source =
+        "// a store\nfun 1 main() { !st64 (0x40000000), ((2) + 3); /* and */ return (7); }";
+    let (status, line) = compiled(rt.alloc(), source)?;
+    assert_eq!(rt; status, 0);
+    assert_eq!(rt; line.as_slice(), b"bound none\n".as_slice());
+    Ok(())
+}
+
 #[test]
 fn writes_the_image(rt: HostRuntime) -> Result<(), Fail> {
     let alloc = rt.alloc();

@@ -14,6 +14,6 @@ compile-requires-clause-form c = c.is_straight.ensures.yes c.if-not-is_straight.
 pub returns-clause-exact : goal.returns-clause-exact
 returns-clause-exact c = λ e refuses.
     let e_is = reasons _ _ _ c.in_ok-tokens.ensures.lexed c.in_ok-program.ensures.only
-        (λ e h. no_error _ _ _ (c.in_ok-tokens.ensures.stuck e h))
-        (λ e h. no_error _ _ _ (c.in_ok-program.ensures.exact e (subst (λ n. parser.Refusal c.in_ok-tokens.tokens.tokens n e) (sym c.in_ok-tokens.ensures.source) h))) e refuses in
+    (λ e h. no_error _ _ _ (c.in_ok-tokens.ensures.stuck e h))
+    (λ e h. no_error _ _ _ (c.in_ok-program.ensures.exact e (subst (λ n. parser.Refusal c.in_ok-tokens.tokens.tokens n e) (sym c.in_ok-tokens.ensures.source) h))) e refuses in
     absurd (is_supported _ _ _ c.in_ok-tokens.ensures.lexed c.in_ok-program.ensures.only (subst (λ e. Refuses c.args.source.now e) e_is refuses) (c.is_straight.ensures.yes c.if-not-is_straight.false, omega (arith, c.weight.ensures, c.if-weight-gt-WEIGHT_LIMIT.false)))

@@ -29,7 +29,7 @@ returns-in-Ok-put_source_line g c =
     let other : c.in-Err-build.error ≡ NoMemory → ⊥ = search rules in
     let line : Took (g.O.Sink.state c.args.out.now) (g.O.Sink.state c.put_source_line.new.out) (source_line c.in-Err-build.error) = search rules in
     refused_so (outside (g.W.Workspace.state c.args.files.now) (g.O.Sink.state c.args.out.now)) (outside (g.W.Workspace.state c.read_file.new.files) (g.O.Sink.state c.put_source_line.new.out))
-        c.args.source.now bytes c.in-Err-build.error held other c.in-Err-build.ensures.refused c.in-Err-build.ensures.exact c.in-Err-build.ensures.served (Took (g.O.Sink.state c.args.out.now) (g.O.Sink.state c.put_source_line.new.out)) q.0 line
+    c.args.source.now bytes c.in-Err-build.error held other c.in-Err-build.ensures.refused c.in-Err-build.ensures.exact c.in-Err-build.ensures.served (Took (g.O.Sink.state c.args.out.now) (g.O.Sink.state c.put_source_line.new.out)) q.0 line
 
 pub returns : goal.returns
 returns g c =
@@ -40,5 +40,5 @@ returns g c =
     let cause : Rose (g.O.Sink.state c.args.out.now).faults (g.O.Sink.state c.put_source_line.new.out).faults = search rules in
     let line : TookFront (g.O.Sink.state c.args.out.now) (g.O.Sink.state c.put_source_line.new.out) (source_line c.in-Err-build.error) = search rules in
     let refused = refused_so (outside (g.W.Workspace.state c.args.files.now) (g.O.Sink.state c.args.out.now)) (outside (g.W.Workspace.state c.read_file.new.files) (g.O.Sink.state c.put_source_line.new.out))
-        c.args.source.now bytes c.in-Err-build.error held other c.in-Err-build.ensures.refused c.in-Err-build.ensures.exact c.in-Err-build.ensures.served (TookFront (g.O.Sink.state c.args.out.now) (g.O.Sink.state c.put_source_line.new.out)) q.0 line in
+    c.args.source.now bytes c.in-Err-build.error held other c.in-Err-build.ensures.refused c.in-Err-build.ensures.exact c.in-Err-build.ensures.served (TookFront (g.O.Sink.state c.args.out.now) (g.O.Sink.state c.put_source_line.new.out)) q.0 line in
     record { cause = cause; line = inr (inr (inl refused)) }
