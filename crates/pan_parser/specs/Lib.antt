@@ -1,3 +1,4 @@
 pub mod Machine
 pub mod Answers
 pub mod Follow
+pub mod Reading

@@ -1,6 +1,8 @@
 //! From the tokens of a source to its tree.
 #![tactic(auto)]
 
+mod cursor;
 mod error;
+mod text;
 
 pub use error::ParseError;
