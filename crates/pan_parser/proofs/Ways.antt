@@ -11,34 +11,45 @@ use Rattle.pan_parser.specs.declared.error.ParseError.TheVariants as error
 use Rattle.pan_parser.specs.Machine.{Symbol, WantSign, WantWord, WantName, WantNumber, Stack, Step, Goes, Refused, Deep, sign_order, word_order, is_sign, is_word, a_name, a_number, step, go_on, run}
 use Rattle.pan_parser.specs.Reading.{left, Comes, IsOne, Reads, Stops, StopsIn}
 
+-- ---- one symbol after another
+
+-- the machine comes from the symbols J at a to the symbols L at b
+pub record Passes (J : Stack) (a : List Placed) (L : Stack) (b : List Placed) : Type 0 where
+  pub by : (K : Stack) → run nesting_limit a (J ++ K) ≡ run nesting_limit b (L ++ K)
+
+pub stays : (J : Stack) (a : List Placed) → Passes J a J a
+stays J a = record { by = λ K. refl }
+
+pub on : {J L M : Stack} {a b c : List Placed} → Passes J a L b → Passes L b M c → Passes J a M c
+on p q = record { by = λ K. p.by K ∙ q.by K }
+
+pub one_read : {x : Symbol} {J : Stack} {a b : List Placed} → Reads (x ∷ []) a b → Passes (x ∷ J) a J b
+one_read {J = J} r = record { by = λ K. r.by (J ++ K) }
+
+pub all_read : {J : Stack} {a b : List Placed} → Passes J a [] b → Reads J a b
+all_read p = record { by = p.by }
+
+pub some_read : {J L : Stack} {a b c : List Placed} → Passes J a L b → Reads L b c → Reads J a c
+some_read p r = record { by = λ K. p.by K ∙ r.by K }
+
+pub stops_on : {J L : Stack} {end : ℕ} {a b : List Placed} {e : ParseError} → Passes J a L b → Stops end L b e → Stops end J a e
+stops_on {J = J} {L = L} {end = end} {a = a} {b = b} {e = e} p s = record { by = by_error e s.by }
+  where
+    by_error : (e : ParseError) → StopsIn end L b e → StopsIn end J a e
+    by_error error.NoMemory h = tt
+    by_error (error.Syntax place) h = (h.0, h.1, λ K. p.by K ∙ h.2 K)
+    by_error (error.TooDeep place) h = (h.0, h.1, λ K. p.by K ∙ h.2 K)
+
+pub stops_first : {x : Symbol} {J : Stack} {end : ℕ} {a : List Placed} {e : ParseError} → Stops end (x ∷ []) a e → Stops end (x ∷ J) a e
+stops_first {x = x} {J = J} {end = end} {a = a} {e = e} s = record { by = by_error e s.by }
+  where
+    by_error : (e : ParseError) → StopsIn end (x ∷ []) a e → StopsIn end (x ∷ J) a e
+    by_error error.NoMemory h = tt
+    by_error (error.Syntax place) h = (h.0, h.1, λ K. h.2 (J ++ K))
+    by_error (error.TooDeep place) h = (h.0, h.1, λ K. h.2 (J ++ K))
+
 -- ---- one token
 
 -- the token takes the machine on, whatever is to come later
-pub goes : (row : TokenRow) (at after : ℕ) (t : Placed) (J L : Stack) → Comes row at after t → ((K : Stack) → step nesting_limit (J ++ K) t ≡ Goes (L ++ K))
-    → (K : Stack) → run nesting_limit (left row at) (J ++ K) ≡ run nesting_limit (left row after) (L ++ K)
-goes row at after t J L comes on K = ap (λ a. run nesting_limit a (J ++ K)) comes.all ∙ ap (λ s. go_on s (t ∷ left row after) (run nesting_limit (left row after))) (on K)
-
-same : (n : ℕ) → nat_eq n n ≡ true
-same n = grind (arith, nat_tests)
-
-pub sign_reads : (row : TokenRow) (at after : ℕ) (w : Sign) → IsOne row at after (ASign w) → Reads (WantSign w ∷ []) (left row at) (left row after)
-sign_reads row at after w one = record {
-  by = goes row at after one.token (WantSign w ∷ []) [] one.comes
-      (λ K. ap (λ v. if is_sign w v then Goes K else Refused) one.is ∙ ap (λ b. if b then Goes K else Refused) (same (sign_order w)));
-}
-
-pub word_reads : (row : TokenRow) (at after : ℕ) (w : Keyword) → IsOne row at after (Reserved w) → Reads (WantWord w ∷ []) (left row at) (left row after)
-word_reads row at after w one = record {
-  by = goes row at after one.token (WantWord w ∷ []) [] one.comes
-      (λ K. ap (λ v. if is_word w v then Goes K else Refused) one.is ∙ ap (λ b. if b then Goes K else Refused) (same (word_order w)));
-}
-
-pub number_reads : (row : TokenRow) (at after n : ℕ) → IsOne row at after (Number n) → Reads (WantNumber ∷ []) (left row at) (left row after)
-number_reads row at after n one = record {
-  by = goes row at after one.token (WantNumber ∷ []) [] one.comes (λ K. ap (λ v. a_number v K) one.is);
-}
-
-pub name_reads : (row : TokenRow) (at after : ℕ) (x : List ℕ) → IsOne row at after (Name x) → Reads (WantName ∷ []) (left row at) (left row after)
-name_reads row at after x one = record {
-  by = goes row at after one.token (WantName ∷ []) [] one.comes (λ K. ap (λ v. a_name v K) one.is);
-}
+pub goes : (row : TokenRow) (at after : ℕ) (t : Placed) (J L : Stack) → Comes row at after t → ((K : Stack) → step nesting_limit (J ++ K) t ≡ Goes (L ++ K)) → Passes J (left row at) L (left row after)
+goes row at after t J L comes on = record { by = λ K. ap (λ a. run nesting_limit a (J ++ K)) comes.all ∙ ap (λ s. go_on s (t ∷ left row after) (run nesting_limit (left row after))) (on K) }

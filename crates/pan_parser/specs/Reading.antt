@@ -1,8 +1,10 @@
 -- What a reading function promises of the machine: that it has read some symbols, or where it stops in them.
-use Rattle.std.specs.Prelude.{◌≡◌, ℕ, ◌<◌, ◌≤◌, List, ◌∷◌, ◌++◌, length, drop}
+use Rattle.std.specs.Prelude.{◌≡◌, ℕ, zero, suc, ◌<◌, ◌≤◌, List, ◌∷◌, ◌++◌, length, drop, Option, Some, None}
 use Rattle.pan_base.specs.Tokens.{Placed, Kind}
 use Rattle.pan_lexer.specs.TokenRow.{TokenRow, IsSpelled}
-use Rattle.pan_tree.specs.Grammar.{nesting_limit}
+use Rattle.pan_tree.specs.declared.shape.Shape.{Shape}
+use Rattle.pan_tree.specs.declared.shape.Shape.TheVariants as shape
+use Rattle.pan_tree.specs.Grammar.{nesting_limit, Within, AShape, MoreShapes}
 use Rattle.pan_parser.specs.declared.error.ParseError.{ParseError}
 use Rattle.pan_parser.specs.declared.error.ParseError.TheVariants as error
 use Rattle.pan_parser.specs.Machine.{Stack, run, Refuses, TooDeep}
@@ -37,3 +39,20 @@ StopsIn end J a (error.TooDeep place) = (rest : List Placed) × (place ≡ place
 
 pub record Stops (end : ℕ) (J : Stack) (a : List Placed) (e : ParseError) : Type 0 where
   pub by : StopsIn end J a e
+
+-- ---- shapes
+
+-- the shape of so many words
+abbrev pub width : ℕ → Option Shape
+width zero = None
+width (suc zero) = Some shape.Word
+width (suc (suc n)) = Some (shape.Words (suc (suc n)))
+
+-- shape {',' shape}
+pub record SomeShapes (k : ℕ) (a c : List Placed) (zs : List Shape) : Type 0 where
+  pub one : Shape
+  pub others : List Shape
+  pub are : zs ≡ one ∷ others
+  pub between : List Placed
+  pub first : AShape Within k a between one
+  pub more : MoreShapes Within k between c others

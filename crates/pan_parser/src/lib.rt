@@ -3,6 +3,7 @@
 
 mod cursor;
 mod error;
+mod shapes;
 mod text;
 
 pub use error::ParseError;
