@@ -21,13 +21,14 @@ takes_width row k at after n t z comes is some = subst (λ a. AShape Within k a 
         let same : shape.Words (suc (suc n)) ≡ z = cc in
         subst (AShape Within k (t ∷ left row after) (left row after)) same (many_words k t (left row after) (suc (suc n)) is (omega arith))
 
-pub takes_group : (row : TokenRow) (k at b c after : ℕ) (t : Placed) (zs : List Shape) → Comes row at b t → Is sign.OpenBrace t → k < nesting_limit
-    → SomeShapes (k + 1) (left row b) (left row c) zs → IsOne row c after (ASign sign.CloseBrace) → AShape Within k (left row at) (left row after) (shape.Group zs)
-takes_group row k at b c after t zs comes is below parts close =
+pub takes_group : (row : TokenRow) (k d at b c after : ℕ) (t : Placed) (zs : List Shape) → Comes row at b t → Is sign.OpenBrace t → (d ≡ k + 1) × (k < nesting_limit)
+    → SomeShapes d (left row b) (left row c) zs → IsOne row c after (ASign sign.CloseBrace) → AShape Within k (left row at) (left row after) (shape.Group zs)
+takes_group row k d at b c after t zs comes is deep given close =
+    let parts : SomeShapes (k + 1) (left row b) (left row c) zs = subst (λ d. SomeShapes d (left row b) (left row c) zs) deep.0 given in
     let more : MoreShapes Within (k + 1) parts.between (close.token ∷ left row after) parts.others = subst (λ d. MoreShapes Within (k + 1) parts.between d parts.others) close.comes.all parts.more in
     subst (λ a. AShape Within k a (left row after) (shape.Group zs)) (sym comes.all)
     (subst (λ zs. AShape Within k (t ∷ left row b) (left row after) (shape.Group zs)) (sym parts.are)
-    (group k t close.token (left row b) parts.between (left row after) parts.one parts.others is (omega arith) parts.first more close.is))
+    (group k t close.token (left row b) parts.between (left row after) parts.one parts.others is (omega (arith, deep.1)) parts.first more close.is))
 
 -- what has been read of a list
 pub record ShapesSo (row : TokenRow) (k from at : ℕ) (parts : List Shape) : Type 0 where

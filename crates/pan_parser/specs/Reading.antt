@@ -4,7 +4,8 @@ use Rattle.pan_base.specs.Tokens.{Placed, Kind}
 use Rattle.pan_lexer.specs.TokenRow.{TokenRow, IsSpelled}
 use Rattle.pan_tree.specs.declared.shape.Shape.{Shape}
 use Rattle.pan_tree.specs.declared.shape.Shape.TheVariants as shape
-use Rattle.pan_tree.specs.Grammar.{nesting_limit, Within, AShape, MoreShapes}
+use Rattle.pan_tree.specs.Nodes.{Expr}
+use Rattle.pan_tree.specs.Grammar.{nesting_limit, Within, AShape, MoreShapes, AnExpr, MoreExprs}
 use Rattle.pan_parser.specs.declared.error.ParseError.{ParseError}
 use Rattle.pan_parser.specs.declared.error.ParseError.TheVariants as error
 use Rattle.pan_parser.specs.Machine.{Stack, run, Refuses, TooDeep}
@@ -26,6 +27,12 @@ pub record IsOne (row : TokenRow) (at after : ℕ) (kind : Kind) : Type 0 where
   pub token : Placed
   pub comes : Comes row at after token
   pub is : token.kind ≡ kind
+
+-- one token stands between the two places, and it has this meaning
+pub record Means {A : Type 0} (row : TokenRow) (at after : ℕ) (meaning : Kind → Option A) (a : A) : Type 0 where
+  pub token : Placed
+  pub comes : Comes row at after token
+  pub is : meaning token.kind ≡ Some a
 
 -- whatever is to come later, the machine reads these symbols from the one place to the other
 pub record Reads (J : Stack) (a b : List Placed) : Type 0 where
@@ -56,3 +63,14 @@ pub record SomeShapes (k : ℕ) (a c : List Placed) (zs : List Shape) : Type 0 w
   pub between : List Placed
   pub first : AShape Within k a between one
   pub more : MoreShapes Within k between c others
+
+-- ---- expressions
+
+-- expr {',' expr}
+pub record SomeExprs (k : ℕ) (a c : List Placed) (zs : List Expr) : Type 0 where
+  pub one : Expr
+  pub others : List Expr
+  pub are : zs ≡ one ∷ others
+  pub between : List Placed
+  pub first : AnExpr Within k a between one
+  pub more : MoreExprs Within k between c others

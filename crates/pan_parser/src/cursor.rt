@@ -4,6 +4,7 @@ ghost use Rattle.std.specs.Prelude.{◌≡◌, ◌+◌, ◌<◌, ◌≤◌, [], 
 ghost use Rattle.pan_base.specs.Tokens.{Kind, placed};
 ghost use Rattle.pan_base.specs.Tokens as kinds;
 ghost use Rattle.pan_tree.specs.Nodes.{between, node};
+ghost use Rattle.pan_tree.specs.Grammar.{nesting_limit};
 ghost use Rattle.pan_parser.specs.Machine as machine;
 ghost use Rattle.pan_parser.specs.Answers.{place_of};
 ghost use Rattle.pan_parser.specs.Follow.{NoSign};
@@ -15,6 +16,9 @@ use pan_base::{Keyword, Sign, Span, Text, Token, TokenKind};
 use pan_lexer::Tokens;
 use pan_tree::Spanned;
 use std::alloc::Global;
+
+/// How deep brackets and prefix operators may nest.
+const NESTING_LIMIT: u32 = 128;
 
 /// The token of this number, from 0 on, and what follows it.
 pub fn first<'a>(tokens: &'a Tokens<'_>, at: usize) -> Option<(Token<'a>, usize)>
@@ -45,11 +49,16 @@ pub fn syntax(tokens: &Tokens<'_>, at: usize) -> ParseError
     ParseError::Syntax(place_of(tokens, at))
 }
 
-/// One more is open there than may be.
-pub fn too_deep(tokens: &Tokens<'_>, at: usize) -> ParseError
-    ensures { result ≡ ParseError.TooDeep (place_of (left tokens.now at) tokens.now.source_len) }
+/// How deep what follows nests, where the token opens one more.
+pub fn deeper(tokens: &Tokens<'_>, at: usize, depth: u32) -> Result<u32, ParseError>
+    ensures ok { IfOk result (λ deep. (deep ≡ depth + 1) × (depth < nesting_limit)) }
+    ensures err { IfErr result (λ e. (e ≡ ParseError.TooDeep (place_of (left tokens.now at) tokens.now.source_len)) × (nesting_limit ≤ depth)) }
 {
-    ParseError::TooDeep(place_of(tokens, at))
+    if depth < NESTING_LIMIT {
+        Ok(depth + 1)
+    } else {
+        Err(ParseError::TooDeep(place_of(tokens, at)))
+    }
 }
 
 /// Whether the token is this sign.

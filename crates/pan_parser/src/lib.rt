@@ -3,6 +3,8 @@
 
 mod cursor;
 mod error;
+mod expressions;
+mod operators;
 mod shapes;
 mod text;
 

@@ -6,15 +6,12 @@ ghost use Rattle.pan_tree.specs.Grammar as grammar;
 ghost use Rattle.pan_parser.specs.Machine as machine;
 ghost use Rattle.pan_parser.specs.Reading.{left, Reads, Stops, SomeShapes, width};
 
-use crate::cursor::{after_sign, expect, first, syntax, too_deep};
+use crate::cursor::{after_sign, deeper, expect, first, syntax};
 use crate::error::ParseError;
 use pan_base::{List, Sign, TokenKind};
 use pan_lexer::Tokens;
 use pan_tree::Shape;
 use std::alloc::Global;
-
-/// How deep brackets and prefix operators may nest.
-pub const NESTING_LIMIT: u32 = 128;
 
 /// The shape of so many words, if there are any.
 fn width(words: u64) -> Option<Shape>
@@ -50,10 +47,8 @@ pub fn shape(
             None => Err(syntax(tokens, at)),
         },
         TokenKind::Sign(Sign::OpenBrace) => {
-            if depth >= NESTING_LIMIT {
-                return Err(too_deep(tokens, at));
-            }
-            let (parts, after) = shapes(alloc, tokens, after, depth + 1)?;
+            let depth = deeper(tokens, at, depth)?;
+            let (parts, after) = shapes(alloc, tokens, after, depth)?;
             let after = expect(tokens, after, Sign::CloseBrace)?;
             Ok((Shape::Group(parts), after))
         }
