@@ -1,6 +1,8 @@
 -- What a reading function promises of the machine: that it has read some symbols, or where it stops in them.
-use Rattle.std.specs.Prelude.{◌≡◌, ℕ, zero, suc, ◌<◌, ◌≤◌, List, ◌∷◌, ◌++◌, length, drop, Option, Some, None}
-use Rattle.pan_base.specs.Tokens.{Placed, Kind}
+use Rattle.std.specs.Prelude.{◌≡◌, ℕ, zero, suc, ◌<◌, ◌≤◌, Bool, true, false, List, ◌∷◌, ◌++◌, length, drop, Option, Some, None}
+use Rattle.pan_base.specs.declared.tokens.Sign.TheVariants as sign
+use Rattle.pan_base.specs.declared.tokens.Keyword.TheVariants as keyword
+use Rattle.pan_base.specs.Tokens.{Placed, Kind, Reserved, ASign}
 use Rattle.pan_lexer.specs.TokenRow.{TokenRow, IsSpelled}
 use Rattle.pan_tree.specs.declared.shape.Shape.{Shape}
 use Rattle.pan_tree.specs.declared.shape.Shape.TheVariants as shape
@@ -10,6 +12,7 @@ use Rattle.pan_parser.specs.declared.error.ParseError.{ParseError}
 use Rattle.pan_parser.specs.declared.error.ParseError.TheVariants as error
 use Rattle.pan_parser.specs.Machine.{Stack, run, Refuses, TooDeep}
 use Rattle.pan_parser.specs.Answers.{place_of}
+use Rattle.pan_parser.specs.Follow.{BeginsNot}
 
 -- the tokens from this one on
 unfoldable pub left : TokenRow → ℕ → List Placed
@@ -74,3 +77,14 @@ pub record SomeExprs (k : ℕ) (a c : List Placed) (zs : List Expr) : Type 0 whe
   pub between : List Placed
   pub first : AnExpr Within k a between one
   pub more : MoreExprs Within k between c others
+
+-- the token is an operator before an expression
+abbrev pub is_prefix : Kind → Bool
+is_prefix (ASign sign.Minus) = true
+is_prefix (Reserved keyword.Lds) = true
+is_prefix (Reserved keyword.Ldb) = true
+is_prefix _ = false
+
+-- no such operator comes
+abbrev pub NoPrefix : List Placed → Type 0
+NoPrefix = BeginsNot (λ v. is_prefix v ≡ false)
