@@ -1,16 +1,16 @@
 -- What a reading function promises of the machine: that it has read some symbols, or where it stops in them.
-use Rattle.std.specs.Prelude.{◌≡◌, ℕ, zero, suc, ◌<◌, ◌≤◌, Bool, true, false, List, ◌∷◌, ◌++◌, length, drop, Option, Some, None}
+use Rattle.std.specs.Prelude.{◌≡◌, ℕ, zero, suc, ◌<◌, ◌≤◌, Bool, true, false, ◌&&◌, List, ◌∷◌, ◌++◌, length, drop, Option, Some, None}
 use Rattle.pan_base.specs.declared.tokens.Sign.TheVariants as sign
 use Rattle.pan_base.specs.declared.tokens.Keyword.TheVariants as keyword
-use Rattle.pan_base.specs.Tokens.{Placed, Kind, Reserved, ASign}
+use Rattle.pan_base.specs.Tokens.{Placed, Kind, Name, Reserved, ASign}
 use Rattle.pan_lexer.specs.TokenRow.{TokenRow, IsSpelled}
 use Rattle.pan_tree.specs.declared.shape.Shape.{Shape}
 use Rattle.pan_tree.specs.declared.shape.Shape.TheVariants as shape
 use Rattle.pan_tree.specs.Nodes.{Expr}
-use Rattle.pan_tree.specs.Grammar.{nesting_limit, Within, AShape, MoreShapes, AnExpr, MoreExprs}
+use Rattle.pan_tree.specs.Grammar.{Is, nesting_limit, Within, AShape, MoreShapes, AnExpr, MoreExprs, Arguments}
 use Rattle.pan_parser.specs.declared.error.ParseError.{ParseError}
 use Rattle.pan_parser.specs.declared.error.ParseError.TheVariants as error
-use Rattle.pan_parser.specs.Machine.{Stack, run, Refuses, TooDeep}
+use Rattle.pan_parser.specs.Machine.{Stack, is_sign, run, Refuses, TooDeep}
 use Rattle.pan_parser.specs.Answers.{place_of}
 use Rattle.pan_parser.specs.Follow.{BeginsNot}
 
@@ -88,3 +88,20 @@ is_prefix _ = false
 -- no such operator comes
 abbrev pub NoPrefix : List Placed → Type 0
 NoPrefix = BeginsNot (λ v. is_prefix v ≡ false)
+
+-- ---- calls
+
+abbrev pub is_name : Kind → Bool
+is_name (Name x) = true
+is_name _ = false
+
+-- a name and a parenthesis come
+abbrev pub begins_call : List Placed → Bool
+begins_call (t ∷ u ∷ a) = is_name t.kind && is_sign sign.OpenParen u.kind
+begins_call _ = false
+
+-- [expr {',' expr}] ')'
+pub record ClosedArguments (k : ℕ) (a c : List Placed) (xs : List Expr) : Type 0 where
+  pub close : Placed
+  pub is : Is sign.CloseParen close
+  pub arguments : Arguments Within k a (close ∷ c) xs

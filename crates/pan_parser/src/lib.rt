@@ -1,6 +1,7 @@
 //! From the tokens of a source to its tree.
 #![tactic(auto)]
 
+mod calls;
 mod cursor;
 mod error;
 mod expressions;
