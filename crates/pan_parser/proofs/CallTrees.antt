@@ -1,11 +1,12 @@
 -- The trees of calls, and of expressions up to a `;`.
 use Rattle.std.proofs.Common.{◌≡◌, ℕ, List, [], ◌∷◌, sym, ap, ◌∙◌, subst}
+use Rattle.pan_base.specs.declared.tokens.Sign.{Sign}
 use Rattle.pan_base.specs.declared.tokens.Sign.TheVariants as sign
 use Rattle.pan_base.specs.Tokens.{Placed, Name, ASign}
 use Rattle.pan_lexer.specs.TokenRow.{TokenRow}
 use Rattle.pan_tree.specs.Nodes.{Expr}
 use Rattle.pan_tree.specs.Grammar.{Within, AnExpr, MoreExprs, Arguments, no_argument, arguments, Plain, plain, ExprEnd, expr_end, TwoExprs, two_exprs}
-use Rattle.pan_parser.specs.Reading.{left, IsOne, SomeExprs, ClosedArguments}
+use Rattle.pan_parser.specs.Reading.{left, IsOne, SomeExprs, ClosedArguments, ExprThen}
 
 pub no_arguments : (row : TokenRow) (k at after : ℕ) (xs : List Expr) → IsOne row at after (ASign sign.CloseParen) → xs ≡ [] → ClosedArguments k (left row at) (left row after) xs
 no_arguments row k at after xs close none = record {
@@ -33,11 +34,12 @@ plain_tree row k at b c after f xs name paren closed =
     subst (λ a. Plain Within k a (left row after) f xs) (sym all)
     (plain k name.token paren.token closed.close (left row c) (left row after) f xs name.is paren.is closed.arguments closed.is)
 
-pub expr_end_tree : (row : TokenRow) (k at b after : ℕ) (x : Expr) → AnExpr Within k (left row at) (left row b) x → IsOne row b after (ASign sign.Semicolon)
-    → ExprEnd Within k (left row at) (left row after) x
-expr_end_tree row k at b after x p end = expr_end k end.token (left row at) (left row after) x (subst (λ b. AnExpr Within k (left row at) b x) end.comes.all p) end.is
+pub expr_then_tree : (row : TokenRow) (w : Sign) (k at b after : ℕ) (x : Expr) → AnExpr Within k (left row at) (left row b) x → IsOne row b after (ASign w)
+    → ExprThen w k (left row at) (left row after) x
+expr_then_tree row w k at b after x p close = record { close = close.token; is = close.is; tree = subst (λ b. AnExpr Within k (left row at) b x) close.comes.all p }
 
-pub two_exprs_tree : (row : TokenRow) (k at b c after : ℕ) (x y : Expr) → AnExpr Within k (left row at) (left row b) x → IsOne row b c (ASign sign.Comma)
-    → ExprEnd Within k (left row c) (left row after) y → TwoExprs Within k (left row at) (left row after) x y
-two_exprs_tree row k at b c after x y p comma q =
-    two_exprs k comma.token (left row at) (left row c) (left row after) x y (subst (λ b. AnExpr Within k (left row at) b x) comma.comes.all p) comma.is q
+pub expr_end_tree : (k : ℕ) (a c : List Placed) (x : Expr) → ExprThen sign.Semicolon k a c x → ExprEnd Within k a c x
+expr_end_tree k a c x p = expr_end k p.close a c x p.tree p.is
+
+pub two_exprs_tree : (k : ℕ) (a b c : List Placed) (x y : Expr) → ExprThen sign.Comma k a b x → ExprEnd Within k b c y → TwoExprs Within k a c x y
+two_exprs_tree k a b c x y p q = two_exprs k p.close a b c x y p.tree p.is q

@@ -13,7 +13,7 @@ letter_below b h = grind (arith, nat_tests)
 byte_below : (b : ℕ) → is_word_byte b ≡ true → b < 128
 byte_below b h = grind (arith, nat_tests)
 
-both : (a b : Bool) → (a && b) ≡ true → (a ≡ true) × (b ≡ true)
+pub both : (a b : Bool) → (a && b) ≡ true → (a ≡ true) × (b ≡ true)
 both true true e = (e, e)
 both true false e = absurd (cc)
 both false b e = absurd (cc)

@@ -1,18 +1,20 @@
 -- What a reading function promises of the machine: that it has read some symbols, or where it stops in them.
-use Rattle.std.specs.Prelude.{◌≡◌, ℕ, zero, suc, ◌<◌, ◌≤◌, Bool, true, false, ◌&&◌, List, ◌∷◌, ◌++◌, length, drop, Option, Some, None}
+use Rattle.std.specs.Prelude.{◌≡◌, ℕ, zero, suc, ◌<◌, ◌≤◌, Bool, true, false, ◌&&◌, List, [], ◌∷◌, ◌++◌, length, drop, Option, Some, None}
+use Rattle.pan_base.specs.declared.tokens.Sign.{Sign}
 use Rattle.pan_base.specs.declared.tokens.Sign.TheVariants as sign
 use Rattle.pan_base.specs.declared.tokens.Keyword.TheVariants as keyword
-use Rattle.pan_base.specs.Tokens.{Placed, Kind, Name, Reserved, ASign}
+use Rattle.pan_base.specs.Tokens.{Placed, Kind, Name, Reserved, Load, ASign}
 use Rattle.pan_lexer.specs.TokenRow.{TokenRow, IsSpelled}
 use Rattle.pan_tree.specs.declared.shape.Shape.{Shape}
 use Rattle.pan_tree.specs.declared.shape.Shape.TheVariants as shape
-use Rattle.pan_tree.specs.Nodes.{Expr}
-use Rattle.pan_tree.specs.Grammar.{Is, nesting_limit, Within, AShape, MoreShapes, AnExpr, MoreExprs, Arguments}
+use Rattle.pan_tree.specs.declared.syntax.StmtKind.{StmtKind}
+use Rattle.pan_tree.specs.Nodes.{Expr, node}
+use Rattle.pan_tree.specs.Grammar.{Is, IsName, Stmt, nesting_limit, Within, AShape, MoreShapes, AnExpr, MoreExprs, Arguments, AStmt, Stmts}
 use Rattle.pan_parser.specs.declared.error.ParseError.{ParseError}
 use Rattle.pan_parser.specs.declared.error.ParseError.TheVariants as error
-use Rattle.pan_parser.specs.Machine.{Stack, is_sign, run, Refuses, TooDeep}
+use Rattle.pan_parser.specs.Machine.{Stack, WantSign, WantExpr, is_sign, run, Refuses, TooDeep}
 use Rattle.pan_parser.specs.Answers.{place_of}
-use Rattle.pan_parser.specs.Follow.{BeginsNot}
+use Rattle.pan_parser.specs.Follow.{BeginsNot, NoSign}
 
 -- the tokens from this one on
 unfoldable pub left : TokenRow → ℕ → List Placed
@@ -105,3 +107,45 @@ pub record ClosedArguments (k : ℕ) (a c : List Placed) (xs : List Expr) : Type
   pub close : Placed
   pub is : Is sign.CloseParen close
   pub arguments : Arguments Within k a (close ∷ c) xs
+
+-- an expression, and this sign behind it
+pub record ExprThen (w : Sign) (k : ℕ) (a c : List Placed) (x : Expr) : Type 0 where
+  pub close : Placed
+  pub is : Is w close
+  pub tree : AnExpr Within k a (close ∷ c) x
+
+-- ---- statements
+
+-- the token is a load of shared memory
+abbrev pub is_load : Kind → Bool
+is_load (Load size) = true
+is_load _ = false
+
+-- no load comes
+abbrev pub NoLoad : List Placed → Type 0
+NoLoad = BeginsNot (λ v. is_load v ≡ false)
+
+-- a name comes, and no `=` behind it
+abbrev pub NoAssignment : List Placed → Type 0
+NoAssignment [] = ⊥
+NoAssignment (t ∷ a) = (is_name t.kind ≡ true) × NoSign sign.Assign a
+
+-- a token of this kind and what follows it spell the statement
+abbrev pub Behind : Kind → ℕ → List Placed → List Placed → StmtKind → Type 0
+Behind v k a b s = (t : Placed) → t.kind ≡ v → AStmt Within k (t ∷ a) b (node (t ∷ a) b s)
+
+-- a name, `=` and what follows them spell the statement
+abbrev pub BehindAssign : List ℕ → ℕ → List Placed → List Placed → StmtKind → Type 0
+BehindAssign x k a b s = (t u : Placed) → IsName x t → Is sign.Assign u → AStmt Within k (t ∷ u ∷ a) b (node (t ∷ u ∷ a) b s)
+
+-- what follows the name of a foreign function
+abbrev pub foreign_rest : ℕ → Stack
+foreign_rest k =
+    WantSign sign.OpenParen ∷ WantExpr k ∷ WantSign sign.Comma ∷ WantExpr k ∷ WantSign sign.Comma ∷ WantExpr k ∷ WantSign sign.Comma ∷ WantExpr k
+    ∷ WantSign sign.CloseParen ∷ WantSign sign.Semicolon ∷ []
+
+-- stmt* '}'
+pub record ClosedStmts (k : ℕ) (a c : List Placed) (xs : List Stmt) : Type 0 where
+  pub close : Placed
+  pub is : Is sign.CloseBrace close
+  pub stmts : Stmts Within k a (close ∷ c) xs

@@ -1,11 +1,11 @@
 //! Calls up to their closing parenthesis, and expressions up to a `;`.
 
 ghost use Rattle.std.specs.Prelude.{◌≡◌, ◌<◌, ◌≤◌, [], ◌∷◌, length, IfOk, IfErr};
-ghost use Rattle.pan_base.specs.declared.tokens.Sign.TheVariants as sign;
+ghost use Rattle.pan_base.specs.declared.tokens.Sign.TheVariants as signs;
 ghost use Rattle.pan_tree.specs.Grammar.{Within};
 ghost use Rattle.pan_tree.specs.Grammar as grammar;
 ghost use Rattle.pan_parser.specs.Machine as machine;
-ghost use Rattle.pan_parser.specs.Reading.{left, Reads, Stops, begins_call, ClosedArguments};
+ghost use Rattle.pan_parser.specs.Reading.{left, Reads, Stops, begins_call, ClosedArguments, ExprThen};
 
 use crate::cursor::{after_sign, expect, expect_name, first};
 use crate::error::ParseError;
@@ -38,9 +38,9 @@ fn arguments(
 ) -> Result<(List<Expr>, usize), ParseError>
     requires { depth ≤ grammar.nesting_limit }
     ensures tree { IfOk result (λ r. ClosedArguments depth (left tokens.now at) (left tokens.now r.1) r.0) }
-    ensures reads { IfOk result (λ r. Reads (machine.MayArguments depth ∷ machine.WantSign sign.CloseParen ∷ []) (left tokens.now at) (left tokens.now r.1)) }
+    ensures reads { IfOk result (λ r. Reads (machine.MayArguments depth ∷ machine.WantSign signs.CloseParen ∷ []) (left tokens.now at) (left tokens.now r.1)) }
     ensures ahead { IfOk result (λ r. (at < r.1) × (r.1 ≤ length tokens.now.tokens)) }
-    ensures err { IfErr result (λ e. Stops tokens.now.source_len (machine.MayArguments depth ∷ machine.WantSign sign.CloseParen ∷ []) (left tokens.now at) e) }
+    ensures err { IfErr result (λ e. Stops tokens.now.source_len (machine.MayArguments depth ∷ machine.WantSign signs.CloseParen ∷ []) (left tokens.now at) e) }
 {
     if let Some(after) = after_sign(tokens, at, Sign::CloseParen) {
         return Ok((List::new(alloc), after));
@@ -70,6 +70,25 @@ pub fn plain(
     Ok((name, arguments, after))
 }
 
+/// An expression and a sign behind it, and what follows.
+pub fn expr_then(
+    alloc: Global,
+    tokens: &Tokens<'_>,
+    at: usize,
+    depth: u32,
+    sign: Sign,
+) -> Result<(Expr, usize), ParseError>
+    requires { depth ≤ grammar.nesting_limit }
+    ensures tree { IfOk result (λ r. ExprThen sign depth (left tokens.now at) (left tokens.now r.1) r.0) }
+    ensures reads { IfOk result (λ r. Reads (machine.WantExpr depth ∷ machine.WantSign sign ∷ []) (left tokens.now at) (left tokens.now r.1)) }
+    ensures ahead { IfOk result (λ r. (at < r.1) × (r.1 ≤ length tokens.now.tokens)) }
+    ensures err { IfErr result (λ e. Stops tokens.now.source_len (machine.WantExpr depth ∷ machine.WantSign sign ∷ []) (left tokens.now at) e) }
+{
+    let (value, after) = expr(alloc, tokens, at, depth)?;
+    let after = expect(tokens, after, sign)?;
+    Ok((value, after))
+}
+
 /// An expression and a `;`, and what follows.
 pub fn expr_end(
     alloc: Global,
@@ -79,12 +98,11 @@ pub fn expr_end(
 ) -> Result<(Expr, usize), ParseError>
     requires { depth ≤ grammar.nesting_limit }
     ensures tree { IfOk result (λ r. grammar.ExprEnd Within depth (left tokens.now at) (left tokens.now r.1) r.0) }
-    ensures reads { IfOk result (λ r. Reads (machine.WantExpr depth ∷ machine.WantSign sign.Semicolon ∷ []) (left tokens.now at) (left tokens.now r.1)) }
+    ensures reads { IfOk result (λ r. Reads (machine.WantExpr depth ∷ machine.WantSign signs.Semicolon ∷ []) (left tokens.now at) (left tokens.now r.1)) }
     ensures ahead { IfOk result (λ r. (at < r.1) × (r.1 ≤ length tokens.now.tokens)) }
-    ensures err { IfErr result (λ e. Stops tokens.now.source_len (machine.WantExpr depth ∷ machine.WantSign sign.Semicolon ∷ []) (left tokens.now at) e) }
+    ensures err { IfErr result (λ e. Stops tokens.now.source_len (machine.WantExpr depth ∷ machine.WantSign signs.Semicolon ∷ []) (left tokens.now at) e) }
 {
-    let (value, after) = expr(alloc, tokens, at, depth)?;
-    let after = expect(tokens, after, Sign::Semicolon)?;
+    let (value, after) = expr_then(alloc, tokens, at, depth, Sign::Semicolon)?;
     Ok((value, after))
 }
 
@@ -101,8 +119,7 @@ pub fn two_exprs(
     ensures ahead { IfOk result (λ r. (at < r.2) × (r.2 ≤ length tokens.now.tokens)) }
     ensures err { IfErr result (λ e. Stops tokens.now.source_len (machine.two_exprs depth []) (left tokens.now at) e) }
 {
-    let (one, after) = expr(alloc, tokens, at, depth)?;
-    let after = expect(tokens, after, Sign::Comma)?;
+    let (one, after) = expr_then(alloc, tokens, at, depth, Sign::Comma)?;
     let (other, after) = expr_end(alloc, tokens, after, depth)?;
     Ok((one, other, after))
 }

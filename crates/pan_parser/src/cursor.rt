@@ -1,13 +1,13 @@
 //! The tokens of a row, one after another.
 
-ghost use Rattle.std.specs.Prelude.{◌≡◌, ◌+◌, ◌<◌, ◌≤◌, [], ◌∷◌, length, IfOk, IfErr, IfSome, IfNone};
+ghost use Rattle.std.specs.Prelude.{◌≡◌, false, ◌+◌, ◌<◌, ◌≤◌, [], ◌∷◌, length, IfOk, IfErr, IfSome, IfNone};
 ghost use Rattle.pan_base.specs.Tokens.{Kind, placed};
 ghost use Rattle.pan_base.specs.Tokens as kinds;
 ghost use Rattle.pan_tree.specs.Nodes.{between, node};
 ghost use Rattle.pan_tree.specs.Grammar.{nesting_limit};
 ghost use Rattle.pan_parser.specs.Machine as machine;
 ghost use Rattle.pan_parser.specs.Answers.{place_of};
-ghost use Rattle.pan_parser.specs.Follow.{NoSign};
+ghost use Rattle.pan_parser.specs.Follow.{BeginsNot, NoSign};
 ghost use Rattle.pan_parser.specs.Reading.{left, Comes, IsOne, Reads, Stops};
 
 use crate::error::ParseError;
@@ -128,18 +128,29 @@ pub fn expect(tokens: &Tokens<'_>, at: usize, sign: Sign) -> Result<usize, Parse
     }
 }
 
+/// What follows the token, if it is this word.
+pub fn after_word(tokens: &Tokens<'_>, at: usize, word: Keyword) -> Option<usize>
+    ensures some { IfSome result (λ after. IsOne tokens.now at after (kinds.Reserved word)) }
+    ensures none { IfNone result (BeginsNot (λ v. machine.is_word word v ≡ false) (left tokens.now at)) }
+{
+    let (t, after) = first(tokens, at)?;
+    if is_word(t.kind, word) {
+        Some(after)
+    } else {
+        None
+    }
+}
+
 /// What follows the token, which must be this word.
 pub fn expect_word(tokens: &Tokens<'_>, at: usize, word: Keyword) -> Result<usize, ParseError>
     ensures ok { IfOk result (λ after. IsOne tokens.now at after (kinds.Reserved word)) }
     ensures reads { IfOk result (λ after. Reads (machine.WantWord word ∷ []) (left tokens.now at) (left tokens.now after)) }
     ensures err { IfErr result (λ e. Stops tokens.now.source_len (machine.WantWord word ∷ []) (left tokens.now at) e) }
 {
-    if let Some((t, after)) = first(tokens, at) {
-        if is_word(t.kind, word) {
-            return Ok(after);
-        }
+    match after_word(tokens, at, word) {
+        Some(after) => Ok(after),
+        None => Err(syntax(tokens, at)),
     }
-    Err(syntax(tokens, at))
 }
 
 /// The number that comes, and what follows it.

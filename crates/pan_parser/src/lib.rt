@@ -7,6 +7,7 @@ mod error;
 mod expressions;
 mod operators;
 mod shapes;
+mod simple;
 mod text;
 
 pub use error::ParseError;
