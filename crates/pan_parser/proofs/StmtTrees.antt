@@ -1,6 +1,7 @@
 -- The trees of statements, behind what they begin with.
 use Rattle.std.proofs.Common.{◌≡◌, ℕ, ◌+◌, ◌<◌, ◌≤◌, List, [], ◌∷◌, ◌++◌, length, Option, Some, None, sym, ap, ◌∙◌, subst, refl, arith, append_assoc, append-nil}
 use Rattle.pan_base.specs.declared.events.Size.{Size}
+use Rattle.pan_base.specs.declared.tokens.Keyword.{Keyword}
 use Rattle.pan_base.specs.declared.tokens.Keyword.TheVariants as keyword
 use Rattle.pan_base.specs.declared.tokens.Sign.TheVariants as sign
 use Rattle.pan_base.specs.Tokens.{Placed, Kind, Name, Reserved, Load, Store, Foreign, ASign}
@@ -24,15 +25,9 @@ pub behind : (row : TokenRow) (k at next : ℕ) (c : List Placed) (t : Placed) (
     → AStmt Within k (left row at) c (node (left row at) c x)
 behind row k at next c t v x comes is p = subst (λ a. AStmt Within k a c (node a c x)) (sym comes.all) (p t is)
 
-pub behind_one : (row : TokenRow) (k at next : ℕ) (c : List Placed) (v : Kind) (x : StmtKind) → IsOne row at next v → Behind v k (left row next) c x
+pub behind_word : (row : TokenRow) (k at next : ℕ) (c : List Placed) (w v : Keyword) (x : StmtKind) → IsOne row at next (Reserved w) → w ≡ v → Behind (Reserved v) k (left row next) c x
     → AStmt Within k (left row at) c (node (left row at) c x)
-behind_one row k at next c v x one p = behind row k at next c one.token v x one.comes one.is p
-
-pub behind_assign : (row : TokenRow) (k at next after : ℕ) (c : List Placed) (t : Placed) (f : List ℕ) (x : StmtKind) → Comes row at next t → IsName f t → IsOne row next after (ASign sign.Assign)
-    → BehindAssign f k (left row after) c x → AStmt Within k (left row at) c (node (left row at) c x)
-behind_assign row k at next after c t f x comes is one p =
-    let all : left row at ≡ t ∷ one.token ∷ left row after = comes.all ∙ ap (λ a. t ∷ a) one.comes.all in
-    subst (λ a. AStmt Within k a c (node a c x)) (sym all) (p t one.token is one.is)
+behind_word row k at next c w v x one same p = behind row k at next c one.token (Reserved v) x one.comes (one.is ∙ ap Reserved same) p
 
 -- ---- statements of one word
 

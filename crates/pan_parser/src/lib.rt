@@ -8,6 +8,7 @@ mod expressions;
 mod operators;
 mod shapes;
 mod simple;
+mod statements;
 mod text;
 
 pub use error::ParseError;
