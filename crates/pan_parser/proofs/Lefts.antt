@@ -54,3 +54,6 @@ spans row from to t u s some within first last is =
     is
     ∙ ap (λ n. record { start = n; end = u.span.end }) (sym (starts row from t first begin))
     ∙ ap (λ n. record { start = start_of (left row from); end = n }) (sym (ends row from to u some within last))
+
+pub some_left : (row : TokenRow) (at : ℕ) → at < length row.tokens → left row at ≡ [] → ⊥
+some_left row at within none = absurd (omega (arith, length_left row at, ap length none))

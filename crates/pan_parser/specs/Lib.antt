@@ -2,3 +2,4 @@ pub mod Machine
 pub mod Answers
 pub mod Follow
 pub mod Reading
+pub mod Items

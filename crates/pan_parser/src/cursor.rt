@@ -82,7 +82,7 @@ fn is_word(kind: TokenKind<'_>, word: Keyword) -> bool
 }
 
 /// From the first byte of one token to the end of the last one before another.
-fn span_between(tokens: &Tokens<'_>, from: usize, to: usize) -> Span
+pub fn span_between(tokens: &Tokens<'_>, from: usize, to: usize) -> Span
     requires some { from < to }
     requires within { to ≤ length tokens.now.tokens }
     ensures { result ≡ between (left tokens.now from) (left tokens.now to) }
