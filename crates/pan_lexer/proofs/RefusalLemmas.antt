@@ -10,7 +10,7 @@ use Rattle.pan_lexer.specs.TokenRow.{IsLawful, IsInOrder, source_limit}
 use Rattle.pan_lexer.specs.declared.error.LexError.{LexError}
 use Rattle.pan_lexer.specs.declared.error.LexError.TheVariants.{TooLong, BadByte, BadNumber, OpenComment, NoMemory}
 use Rattle.pan_lexer.proofs.TestLemmas.{not_true, both_true}
-use Rattle.pan_lexer.proofs.RowLemmas.{one_stuck_place, no_row_where_stuck, row_in_order}
+use Rattle.pan_lexer.proofs.RowLemmas.{one_stuck_place, no_row_where_stuck, row_in_order, row_spelled}
 
 -- ---- and it's the only one
 
@@ -75,4 +75,4 @@ lexed_no_refusal bytes row short lexes NoMemory r = r
 pub lexed_lawful : (bytes : List ℕ) (row : List Placed) → length bytes ≤ source_limit → Lexes bytes row → IsLawful (record { tokens = row; source_len = length bytes })
 lexed_lawful bytes row short lexes =
     let end : 0 + length bytes ≡ length bytes = omega arith in
-    record { in_order = subst (λ n. IsInOrder 0 row n) end (row_in_order 0 bytes [] row lexes); short = short }
+    record { in_order = subst (λ n. IsInOrder 0 row n) end (row_in_order 0 bytes [] row lexes); short = short; spelled = row_spelled 0 bytes [] row lexes }

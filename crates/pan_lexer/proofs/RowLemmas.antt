@@ -1,6 +1,8 @@
 -- A text has one row of tokens at most, and is stuck at one place at most.
 use Rattle.std.proofs.Common.{◌≡◌, ℕ, zero, suc, ◌+◌, ◌-◌, ◌<◌, ◌≤◌, true, false, ◌==◌, List, [], ◌∷◌, ◌++◌, length, Option, Some, None, sym, ap, ◌∙◌, subst, refl, inl, inr, arith, length-append}
 use Rattle.std.specs.Prelude.{◌⊎◌}
+use Rattle.std.specs.List.{All}
+use Rattle.std.proofs.lemmas.List.Elements.{All-nil, All-cons}
 use Rattle.std.proofs.lemmas.Bool.Decides.{Decides-eqb}
 use Rattle.pan_base.specs.declared.span.Span.{Span}
 use Rattle.pan_base.specs.Tokens.{Kind, Placed, Spells, IsLongest}
@@ -8,7 +10,7 @@ use Rattle.pan_base.specs.Lexing.{IsGap, Row, Here, Gap, Next, Lexes, IsStuck, I
 use Rattle.pan_lexer.specs.Found.{tokens_in}
 use Rattle.pan_lexer.specs.Pieces.{piece_of, after_gap, token_of}
 use Rattle.pan_lexer.specs.Laws.{OneRow, NoRowWhereStuck, OneStuckPlace, RowOrStuck}
-use Rattle.pan_lexer.specs.TokenRow.{IsInOrder}
+use Rattle.pan_lexer.specs.TokenRow.{IsInOrder, IsSpelled}
 use Rattle.pan_lexer.proofs.TestLemmas.{different, none_or_some}
 use Rattle.pan_lexer.proofs.PieceLemmas.{PieceAt, piece_found, piece_given, piece_shorter, token_length}
 
@@ -268,3 +270,9 @@ scanned_all bytes rest tokens none so = subst (λ rest. Row 0 bytes tokens rest)
 
 pub scanned_stuck : (bytes rest : List ℕ) (tokens : List Placed) → false ≡ (length rest == 0) → piece_of rest ≡ None → ScannedSo bytes rest tokens → IsStuckAt bytes (length bytes - length rest) rest
 scanned_stuck bytes rest tokens some none so = stuck_at bytes rest tokens so.row none (no_empty_text rest some)
+
+-- the tokens of a row are spelled somehow
+pub row_spelled : (at : ℕ) (bytes rest : List ℕ) (tokens : List Placed) → Row at bytes tokens rest → All (λ t. IsSpelled t.kind) tokens
+row_spelled at bytes rest tokens (Here _ _) = All-nil (λ t. IsSpelled t.kind)
+row_spelled at bytes rest tokens (Gap _ _ text more _ _ all gap row) = row_spelled (at + length text) more rest tokens row
+row_spelled at bytes rest _ (Next _ _ text more _ kind tokens all spelled longest row) = All-cons (λ t. IsSpelled t.kind) _ tokens (text, spelled) (row_spelled (at + length text) more rest tokens row)

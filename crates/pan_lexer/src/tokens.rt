@@ -1,8 +1,8 @@
 //! The tokens of a source.
 
 ghost use Rattle.std.specs.Prelude.{◌≡◌, ◌<◌, ◌≤◌, ◌↔◌, length, map, slice_get, IsTrue};
-ghost use Rattle.pan_base.specs.Tokens.{placed};
-ghost use Rattle.pan_lexer.specs.TokenRow.{IsLawful};
+ghost use Rattle.pan_base.specs.Tokens.{placed, kind_of};
+ghost use Rattle.pan_lexer.specs.TokenRow.{IsSpelled, IsLawful};
 
 use pan_base::{List, Token};
 use std::marker::Model;
@@ -64,6 +64,7 @@ impl<'a> Tokens<'a> {
         ensures token { slice_get self.now.tokens i ≡ Some (placed result) }
         ensures some { result.span.start < result.span.end }
         ensures within { result.span.end ≤ self.now.source_len }
+        ensures spelled { IsSpelled (kind_of result.kind) }
     {
         self.tokens.as_slice()[i]
     }

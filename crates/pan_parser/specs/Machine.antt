@@ -229,7 +229,7 @@ begin_stmt k (Reserved keyword.Raise) K other = Goes (WantName ∷ WantExpr k �
 begin_stmt k (Store size) K other = Goes (two_exprs k K)
 begin_stmt k (Foreign x) K other =
     Goes (WantSign sign.OpenParen ∷ WantExpr k ∷ WantSign sign.Comma ∷ WantExpr k ∷ WantSign sign.Comma ∷ WantExpr k ∷ WantSign sign.Comma ∷ WantExpr k
-        ∷ WantSign sign.CloseParen ∷ WantSign sign.Semicolon ∷ K)
+    ∷ WantSign sign.CloseParen ∷ WantSign sign.Semicolon ∷ K)
 begin_stmt k _ K other = other
 
 -- an item begins, or else
