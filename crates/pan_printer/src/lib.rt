@@ -1,0 +1,4 @@
+//! The canonical text of the source's trees (`specs/Canonical.antt`), which reads back as the tree that was printed.
+#![tactic(auto)]
+
+mod binding;
