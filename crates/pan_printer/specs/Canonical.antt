@@ -1,5 +1,5 @@
 -- The tokens of statements and of programs, and the canonical text of a program.
-use Rattle.std.specs.Prelude.{ℕ, Bool, true, false, if◌then◌else◌, List, [], ◌∷◌, ◌++◌, map, flat_map, Option, Some, None}
+use Rattle.std.specs.Prelude.{ℕ, Bool, true, false, if◌then◌else◌, List, [], ◌∷◌, ◌++◌, flat_map, Option, Some, None}
 use Rattle.pan_base.specs.declared.tokens.Keyword.TheVariants as keyword
 use Rattle.pan_base.specs.declared.tokens.Sign.TheVariants as signs
 use Rattle.pan_base.specs.Tokens.{Load, Store, Foreign, ASign}
@@ -23,16 +23,16 @@ use Rattle.pan_printer.specs.Expressions.{shape_pieces, expr_pieces}
 -- ---- statements
 
 -- A block of statements, whose braces end their lines.
-abbrev pub block : List (List Piece) → List Piece
-block stmts = ending (ASign signs.OpenBrace) ∷ flat_map (λ stmt. stmt) stmts ++ ending (ASign signs.CloseBrace) ∷ []
+abbrev pub block : {S : Type 0} → (S → List Piece) → List S → List Piece
+block pieces stmts = ending (ASign signs.OpenBrace) ∷ flat_map pieces stmts ++ ending (ASign signs.CloseBrace) ∷ []
 
 -- a block of statements that are printed already
 abbrev pub block_layer : BlockOf (Spanned (List Piece)) → List Piece
-block_layer b = block (map (λ stmt. stmt.kind) b.stmts)
+block_layer b = block (λ stmt. stmt.kind) b.stmts
 
 -- the name of a function and the arguments of a call
 abbrev pub plain_call : List ℕ → List (Spanned ExprKind) → List Piece
-plain_call function args = name function ∷ sign signs.OpenParen ∷ with_commas (map expr_pieces args) ++ sign signs.CloseParen ∷ []
+plain_call function args = name function ∷ sign signs.OpenParen ∷ with_commas expr_pieces args ++ sign signs.CloseParen ∷ []
 
 -- what stands before a call
 abbrev pub target_pieces : Target → List Piece
@@ -64,7 +64,7 @@ stmt_layer (stmt.TailCall function args) = word keyword.Return ∷ plain_call fu
 stmt_layer (stmt.Raise exception e) = word keyword.Raise ∷ name exception ∷ expr_pieces e ++ semicolon ∷ []
 stmt_layer (stmt.SharedLoad size x a) = name x ∷ sign signs.Assign ∷ spaced (Load size) ∷ expr_pieces a ++ semicolon ∷ []
 stmt_layer (stmt.SharedStore size a e) = spaced (Store size) ∷ two_exprs a e
-stmt_layer (stmt.Foreign f a b c d) = spaced (Foreign f) ∷ sign signs.OpenParen ∷ with_commas (map expr_pieces (a ∷ b ∷ c ∷ d ∷ [])) ++ sign signs.CloseParen ∷ semicolon ∷ []
+stmt_layer (stmt.Foreign f a b c d) = spaced (Foreign f) ∷ sign signs.OpenParen ∷ with_commas expr_pieces (a ∷ b ∷ c ∷ d ∷ []) ++ sign signs.CloseParen ∷ semicolon ∷ []
 
 unfoldable pub kind_pieces : StmtKind → List Piece
 kind_pieces = fold-StmtKind (List Piece) stmt_layer
@@ -73,7 +73,7 @@ abbrev pub stmt_pieces : Spanned StmtKind → List Piece
 stmt_pieces s = kind_pieces s.kind
 
 abbrev pub block_pieces : BlockOf (Spanned StmtKind) → List Piece
-block_pieces b = block (map stmt_pieces b.stmts)
+block_pieces b = block stmt_pieces b.stmts
 
 -- ---- programs
 
@@ -97,7 +97,7 @@ exception_pieces x = word keyword.Exception ∷ name x.name ∷ shape_pieces x.s
 
 abbrev pub function_pieces : Function → List Piece
 function_pieces f =
-    word keyword.Fun ∷ result_pieces f.result ++ name f.name ∷ sign signs.OpenParen ∷ with_commas (map param_pieces f.params)
+    word keyword.Fun ∷ result_pieces f.result ++ name f.name ∷ sign signs.OpenParen ∷ with_commas param_pieces f.params
     ++ sign signs.CloseParen ∷ block_pieces f.body
 
 -- exceptions first, then functions

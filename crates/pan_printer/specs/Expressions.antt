@@ -1,5 +1,5 @@
 -- The tokens of shapes and expressions.
-use Rattle.std.specs.Prelude.{ℕ, nat_lt, if◌then◌else◌, List, [], ◌∷◌, ◌++◌, map, flat_map}
+use Rattle.std.specs.Prelude.{ℕ, nat_lt, if◌then◌else◌, List, [], ◌∷◌, ◌++◌, flat_map}
 use Rattle.pan_base.specs.declared.operators.BinOp.{BinOp}
 use Rattle.pan_base.specs.declared.operators.BinOp.TheVariants as bin_op
 use Rattle.pan_base.specs.declared.operators.ShOp.{ShOp}
@@ -25,7 +25,7 @@ use Rattle.pan_printer.specs.Pieces.{Piece, spaced, sign, word, name, number, wi
 abbrev pub shape_layer : Shape-F (List Piece) → List Piece
 shape_layer shape.Word = number 1 ∷ []
 shape_layer (shape.Words n) = number n ∷ []
-shape_layer (shape.Group parts) = sign signs.OpenBrace ∷ with_commas parts ++ sign signs.CloseBrace ∷ []
+shape_layer (shape.Group parts) = sign signs.OpenBrace ∷ with_commas (λ part. part) parts ++ sign signs.CloseBrace ∷ []
 
 unfoldable pub shape_pieces : Shape → List Piece
 shape_pieces = fold-Shape (List Piece) shape_layer
@@ -108,8 +108,8 @@ chain_binding [] = binding.Primary
 chain_binding (y ∷ ys) = operator_binding y.0
 
 -- the operators of a chain, each with the part behind it
-abbrev pub terms : Binding → List (BinOp × Spanned Written) → List Piece
-terms least ys = flat_map (λ y. sign (operator_sign y.0) ∷ at least (y.1).kind) ys
+abbrev pub terms : {X : Type 0} → Binding → (X → Written) → List (BinOp × X) → List Piece
+terms least part ys = flat_map (λ y. sign (operator_sign y.0) ∷ at least (part y.1)) ys
 
 abbrev pub shifts : List (ShOp × ℕ) → List Piece
 shifts ns = flat_map (λ n. sign (shift_sign n.0) ∷ number n.1 ∷ []) ns
@@ -125,12 +125,12 @@ expr_layer (expr.Number n) = written binding.Primary (number n ∷ [])
 expr_layer (expr.Var x) = written binding.Primary (name x ∷ [])
 expr_layer expr.Base = written binding.Primary (spaced Base ∷ [])
 expr_layer expr.Biw = written binding.Primary (spaced Biw ∷ [])
-expr_layer (expr.Struct xs) = written binding.Primary (sign signs.Less ∷ with_commas (map (λ x. (x.kind).pieces) xs) ++ sign signs.Greater ∷ [])
+expr_layer (expr.Struct xs) = written binding.Primary (sign signs.Less ∷ with_commas (λ x. (x.kind).pieces) xs ++ sign signs.Greater ∷ [])
 expr_layer (expr.Field x is) = written binding.Field (at binding.Primary x.kind ++ fields is)
 expr_layer (expr.Load z x) = written binding.Unary (word keyword.Lds ∷ shape_pieces z ++ at binding.Unary x.kind)
 expr_layer (expr.LoadByte x) = written binding.Unary (word keyword.Ldb ∷ at binding.Unary x.kind)
 expr_layer (expr.Neg x) = written binding.Unary (sign signs.Minus ∷ at binding.Unary x.kind)
-expr_layer (expr.Chain x ys) = written (chain_binding ys) (at (tighter (chain_binding ys)) x.kind ++ terms (tighter (chain_binding ys)) ys)
+expr_layer (expr.Chain x ys) = written (chain_binding ys) (at (tighter (chain_binding ys)) x.kind ++ terms (tighter (chain_binding ys)) (λ y. y.kind) ys)
 expr_layer (expr.Shift x ns) = written binding.Shift (at (tighter binding.Shift) x.kind ++ shifts ns)
 expr_layer (expr.Compare o x y) = written binding.Comparison (at (tighter binding.Comparison) x.kind ++ sign (comparison_sign o) ∷ at (tighter binding.Comparison) y.kind)
 

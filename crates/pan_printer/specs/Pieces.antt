@@ -22,7 +22,7 @@ pub record Piece : Type 0 where
   pub kind : Kind
   pub ends_line : Bool
 
-abbrev pub piece_text : Piece → List ℕ
+unfoldable pub piece_text : Piece → List ℕ
 piece_text p = spelling p.kind ++ (if p.ends_line then codes "\n" else codes " ")
 
 -- the text of printed tokens
@@ -53,7 +53,7 @@ number n = spaced (Number n)
 abbrev pub semicolon : Piece
 semicolon = ending (ASign signs.Semicolon)
 
--- each part, with commas between them
-abbrev pub with_commas : List (List Piece) → List Piece
-with_commas [] = []
-with_commas (part ∷ parts) = part ++ flat_map (λ part. sign signs.Comma ∷ part) parts
+-- the tokens of each part, with commas between them
+abbrev pub with_commas : {X : Type 0} → (X → List Piece) → List X → List Piece
+with_commas pieces [] = []
+with_commas pieces (x ∷ xs) = pieces x ++ flat_map (λ x. sign signs.Comma ∷ pieces x) xs

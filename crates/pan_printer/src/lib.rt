@@ -2,3 +2,7 @@
 #![tactic(auto)]
 
 mod binding;
+mod expressions;
+mod output;
+mod shapes;
+mod spelling;
