@@ -1,5 +1,5 @@
 -- How shapes and expressions are printed, at each variant.
-use Rattle.std.proofs.Common.{◌≡◌, ℕ, List, [], ◌∷◌, ◌++◌, map, refl, sym, ap, ◌∙◌}
+use Rattle.std.proofs.Common.{◌≡◌, ℕ, Bool, true, false, List, [], ◌∷◌, ◌++◌, map, refl, sym, ap, ◌∙◌}
 use Rattle.std.proofs.lemmas.List.Folds.{flat_map-map}
 use Rattle.pan_base.specs.declared.operators.BinOp.{BinOp}
 use Rattle.pan_base.specs.declared.operators.ShOp.{ShOp}
@@ -18,6 +18,7 @@ use Rattle.pan_printer.specs.declared.binding.Binding.{Binding}
 use Rattle.pan_printer.specs.declared.binding.Binding.TheVariants as binding
 use Rattle.pan_printer.specs.Pieces.{Piece, spaced, sign, word, name, number, with_commas}
 use Rattle.pan_printer.specs.Expressions.{shape_layer, shape_pieces, tighter, Written, written, at, comparison_sign, operator_sign, operator_binding, chain_binding, terms, shifts, fields, expr_layer, kind_written, expr_pieces}
+use Rattle.pan_printer.specs.Canonical.{is_word_layer, is_word}
 
 -- ---- shapes
 
@@ -41,6 +42,21 @@ shape_group parts = ap shape_pieces (sym (shape.rolls-Group parts)) ∙ shape_ro
     ∙ ap (λ row. sign signs.OpenBrace ∷ row ++ sign signs.CloseBrace ∷ []) (commas_map (λ part. part) shape_pieces parts)
 
 pub ruleset shape_rules = (shape_word, shape_words, shape_group)
+
+is_word_roll : (x : Shape-F Shape) → is_word (roll-Shape x) ≡ is_word_layer (map-Shape Shape Bool is_word x)
+unfolding is_word
+is_word_roll x = fold-roll-Shape Bool is_word_layer x
+
+pub is_word_word : is_word shape.Word ≡ true
+is_word_word = ap is_word (sym shape.rolls-Word) ∙ is_word_roll open_shape.Word
+
+pub is_word_words : (n : ℕ) → is_word (shape.Words n) ≡ false
+is_word_words n = ap is_word (sym (shape.rolls-Words n)) ∙ is_word_roll (open_shape.Words n)
+
+pub is_word_group : (parts : List Shape) → is_word (shape.Group parts) ≡ false
+is_word_group parts = ap is_word (sym (shape.rolls-Group parts)) ∙ is_word_roll (open_shape.Group parts)
+
+pub ruleset is_word_rules = (is_word_word, is_word_words, is_word_group)
 
 -- ---- expressions
 

@@ -23,12 +23,13 @@ use Rattle.pan_printer.specs.Expressions.{shape_pieces, expr_pieces}
 -- ---- statements
 
 -- A block of statements, whose braces end their lines.
-abbrev pub block : {S : Type 0} → (S → List Piece) → List S → List Piece
-block pieces stmts = ending (ASign signs.OpenBrace) ∷ flat_map pieces stmts ++ ending (ASign signs.CloseBrace) ∷ []
+abbrev pub block : {S : Type 0} → (S → List Piece) → BlockOf S → List Piece
+block pieces b = ending (ASign signs.OpenBrace) ∷ flat_map pieces b.stmts ++ ending (ASign signs.CloseBrace) ∷ []
 
--- a block of statements that are printed already
-abbrev pub block_layer : BlockOf (Spanned (List Piece)) → List Piece
-block_layer b = block (λ stmt. stmt.kind) b.stmts
+-- what catches an exception, if there is one
+abbrev pub handler : {S : Type 0} → (S → List Piece) → Option (HandlerOf S) → List Piece
+handler pieces None = []
+handler pieces (Some h) = word keyword.Handle ∷ name h.exception ∷ name h.name ∷ block pieces h.body
 
 -- the name of a function and the arguments of a call
 abbrev pub plain_call : List ℕ → List (Spanned ExprKind) → List Piece
@@ -40,10 +41,6 @@ target_pieces target.Nothing = []
 target_pieces (target.Old x) = name x ∷ sign signs.Assign ∷ []
 target_pieces (target.New x) = word keyword.Var ∷ name x ∷ sign signs.Assign ∷ []
 
-abbrev pub handler_layer : Option (HandlerOf (Spanned (List Piece))) → List Piece
-handler_layer None = []
-handler_layer (Some h) = word keyword.Handle ∷ name h.exception ∷ name h.name ∷ block_layer h.body
-
 abbrev pub two_exprs : Spanned ExprKind → Spanned ExprKind → List Piece
 two_exprs x y = expr_pieces x ++ sign signs.Comma ∷ expr_pieces y ++ semicolon ∷ []
 
@@ -54,11 +51,11 @@ stmt_layer (stmt.Decl x e) = word keyword.Var ∷ name x ∷ sign signs.Assign �
 stmt_layer (stmt.Assign x e) = name x ∷ sign signs.Assign ∷ expr_pieces e ++ semicolon ∷ []
 stmt_layer (stmt.StoreWords a e) = word keyword.St ∷ two_exprs a e
 stmt_layer (stmt.StoreByte a e) = word keyword.Stb ∷ two_exprs a e
-stmt_layer (stmt.If e then_do else_do) = word keyword.If ∷ expr_pieces e ++ block_layer then_do ++ word keyword.Else ∷ block_layer else_do
-stmt_layer (stmt.While e body) = word keyword.While ∷ expr_pieces e ++ block_layer body
+stmt_layer (stmt.If e then_do else_do) = word keyword.If ∷ expr_pieces e ++ block (λ s. s.kind) then_do ++ word keyword.Else ∷ block (λ s. s.kind) else_do
+stmt_layer (stmt.While e body) = word keyword.While ∷ expr_pieces e ++ block (λ s. s.kind) body
 stmt_layer stmt.Break = word keyword.Break ∷ semicolon ∷ []
 stmt_layer stmt.Continue = word keyword.Continue ∷ semicolon ∷ []
-stmt_layer (stmt.Call c) = target_pieces c.into ++ plain_call c.function c.args ++ handler_layer c.handler ++ semicolon ∷ []
+stmt_layer (stmt.Call c) = target_pieces c.into ++ plain_call c.function c.args ++ handler (λ s. s.kind) c.handler ++ semicolon ∷ []
 stmt_layer (stmt.Return e) = word keyword.Return ∷ expr_pieces e ++ semicolon ∷ []
 stmt_layer (stmt.TailCall function args) = word keyword.Return ∷ plain_call function args ++ semicolon ∷ []
 stmt_layer (stmt.Raise exception e) = word keyword.Raise ∷ name exception ∷ expr_pieces e ++ semicolon ∷ []
@@ -71,9 +68,6 @@ kind_pieces = fold-StmtKind (List Piece) stmt_layer
 
 abbrev pub stmt_pieces : Spanned StmtKind → List Piece
 stmt_pieces s = kind_pieces s.kind
-
-abbrev pub block_pieces : BlockOf (Spanned StmtKind) → List Piece
-block_pieces b = block stmt_pieces b.stmts
 
 -- ---- programs
 
@@ -98,7 +92,7 @@ exception_pieces x = word keyword.Exception ∷ name x.name ∷ shape_pieces x.s
 abbrev pub function_pieces : Function → List Piece
 function_pieces f =
     word keyword.Fun ∷ result_pieces f.result ++ name f.name ∷ sign signs.OpenParen ∷ with_commas param_pieces f.params
-    ++ sign signs.CloseParen ∷ block_pieces f.body
+    ++ sign signs.CloseParen ∷ block stmt_pieces f.body
 
 -- exceptions first, then functions
 abbrev pub program_pieces : Program → List Piece

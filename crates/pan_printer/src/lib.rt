@@ -4,5 +4,9 @@
 mod binding;
 mod expressions;
 mod output;
+mod programs;
 mod shapes;
 mod spelling;
+mod statements;
+
+pub use programs::print;
