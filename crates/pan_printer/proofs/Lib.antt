@@ -1,7 +1,12 @@
 pub mod Begins
+pub mod ChainReading
 pub mod Decimals
 pub mod TokenTexts
+pub mod ExprAgain
+pub mod ExprReading
 pub mod Layers
+pub mod Places
+pub mod ShapeReading
 pub mod Spans
 pub mod StmtLayers
 pub mod Texts
