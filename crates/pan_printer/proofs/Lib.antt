@@ -5,8 +5,12 @@ pub mod TokenTexts
 pub mod ExprAgain
 pub mod ExprReading
 pub mod Layers
+pub mod PartReading
 pub mod Places
 pub mod ShapeReading
 pub mod Spans
+pub mod StmtAlike
 pub mod StmtLayers
+pub mod StmtReading
+pub mod StmtSpans
 pub mod Texts
