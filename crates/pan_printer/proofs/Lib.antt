@@ -7,10 +7,12 @@ pub mod ExprReading
 pub mod Layers
 pub mod PartReading
 pub mod Places
+pub mod ProgramReading
 pub mod ShapeReading
 pub mod Spans
 pub mod StmtAlike
 pub mod StmtLayers
 pub mod StmtReading
 pub mod StmtSpans
+pub mod StmtsAgain
 pub mod Texts

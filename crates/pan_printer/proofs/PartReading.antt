@@ -1,14 +1,13 @@
 -- The parts of printed statements are read as they are.
 use Rattle.std.proofs.Common.{◌≡◌, ℕ, ◌+◌, List, [], ◌∷◌, ◌++◌, map, Option, Some, None, refl, ap, ◌∙◌}
 use Rattle.std.specs.Prelude.{flat_map}
-use Rattle.pan_base.specs.declared.tokens.Keyword.TheVariants as keyword
 use Rattle.pan_base.specs.declared.tokens.Sign.TheVariants as signs
 use Rattle.pan_base.specs.Tokens.{Placed, Name, ASign}
 use Rattle.pan_tree.specs.declared.syntax.StmtKind.{StmtKind}
 use Rattle.pan_tree.specs.Nodes.{Expr}
-use Rattle.pan_tree.specs.Grammar.{Stmt, Block, Handler, MoreExprs, Arguments, no_argument, arguments, Plain, plain, ExprEnd, expr_end, TwoExprs, two_exprs, AStmt, MayHandle, no_handler, handler, ABlock, block, Stmts, no_stmt, next_stmt, CallEnd, call_end}
+use Rattle.pan_tree.specs.Grammar.{Stmt, Block, Handler, Arguments, no_argument, arguments, Plain, plain, ExprEnd, expr_end, TwoExprs, two_exprs, AStmt, MayHandle, no_handler, handler, ABlock, block, Stmts, no_stmt, next_stmt, CallEnd, call_end}
 use Rattle.pan_printer.specs.declared.binding.Binding.TheVariants as binding
-use Rattle.pan_printer.specs.Pieces.{Piece, ending, sign, word, name, semicolon, with_commas}
+use Rattle.pan_printer.specs.Pieces.{Piece, ending, sign, semicolon, with_commas}
 use Rattle.pan_printer.specs.Expressions.{kind_written, expr_pieces}
 use Rattle.pan_printer.specs.Canonical as canonical
 use Rattle.pan_printer.specs.Canonical.{plain_call, kind_pieces, stmt_pieces}

@@ -8,7 +8,6 @@ use Rattle.pan_tree.specs.declared.spanned.Spanned.{Spanned}
 use Rattle.pan_tree.specs.declared.syntax.Target.{Target}
 use Rattle.pan_tree.specs.declared.syntax.BlockOf.{BlockOf}
 use Rattle.pan_tree.specs.declared.syntax.HandlerOf.{HandlerOf}
-use Rattle.pan_tree.specs.declared.syntax.CallOf.{CallOf}
 use Rattle.pan_tree.specs.declared.syntax.StmtKind.{StmtKind, StmtKind-F, roll-StmtKind, map-StmtKind, ind-StmtKind}
 use Rattle.pan_tree.specs.declared.syntax.StmtKind.TheOpen as open_stmt
 use Rattle.pan_tree.specs.declared.syntax.StmtKind.TheVariants as s
@@ -17,9 +16,9 @@ use Rattle.pan_tree.specs.declared.program.Function.{Function}
 use Rattle.pan_tree.specs.declared.program.Exception.{Exception}
 use Rattle.pan_tree.specs.Nodes.{Expr}
 use Rattle.pan_tree.specs.Grammar.{Stmt, Block, Handler}
-use Rattle.pan_printer.specs.Pieces.{Piece, spaced, ending, sign, word, name, semicolon, with_commas, text_of}
+use Rattle.pan_printer.specs.Pieces.{Piece, spaced, ending, sign, word, name, semicolon, with_commas}
 use Rattle.pan_printer.specs.Expressions.{expr_pieces}
-use Rattle.pan_printer.specs.Canonical.{block, handler, plain_call, target_pieces, two_exprs, kind_pieces, stmt_pieces, result_pieces, param_pieces, exception_pieces, function_pieces, program_pieces, canonical}
+use Rattle.pan_printer.specs.Canonical.{block, handler, plain_call, target_pieces, two_exprs, kind_pieces, stmt_pieces, result_pieces, param_pieces, exception_pieces, function_pieces, program_pieces}
 use Rattle.pan_printer.specs.Unspanned.{unspanned_expr, unspanned_stmt_kind, unspanned_stmt, unspanned_block, unspanned_exception, unspanned_function, unspanned, SameButSpans}
 use Rattle.pan_printer.proofs.Spans.{written_alike, Each, flat_map_same, commas_same}
 use Rattle.pan_printer.proofs.StmtLayers.{stmt_decl, stmt_assign, stmt_store_words, stmt_store_byte, stmt_if, stmt_while, stmt_call, stmt_return, stmt_tail_call, stmt_raise, stmt_shared_load, stmt_shared_store, stmt_foreign}

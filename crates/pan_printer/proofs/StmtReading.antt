@@ -6,10 +6,9 @@ use Rattle.pan_base.specs.declared.tokens.Sign.TheVariants as signs
 use Rattle.pan_base.specs.Tokens.{Placed, Name, Load, Store, Foreign, ASign}
 use Rattle.pan_tree.specs.declared.syntax.Target.{Target}
 use Rattle.pan_tree.specs.declared.syntax.Target.TheVariants as target
-use Rattle.pan_tree.specs.declared.syntax.StmtKind.{StmtKind}
 use Rattle.pan_tree.specs.declared.syntax.StmtKind.TheVariants as s
 use Rattle.pan_tree.specs.Nodes.{Expr, node}
-use Rattle.pan_tree.specs.Grammar.{Block, Handler, IsWord, AnExpr, MoreExprs, no_expr, next_expr, AStmt, ABlock, skip, declaration, declaration_call, assignment, assignment_call, shared_load, call, store_words, store_byte, branch, loop, break, continue, return, tail_call, raise, shared_store, foreign}
+use Rattle.pan_tree.specs.Grammar.{Block, Handler, IsWord, AnExpr, MoreExprs, no_expr, next_expr, skip, declaration, declaration_call, assignment, assignment_call, shared_load, call, store_words, store_byte, branch, loop, break, continue, return, tail_call, raise, shared_store, foreign}
 use Rattle.pan_printer.specs.Pieces.{Piece, spaced, sign, word, name, semicolon, with_commas}
 use Rattle.pan_printer.specs.Expressions.{kind_written, expr_pieces}
 use Rattle.pan_printer.specs.Canonical.{plain_call, target_pieces, two_exprs, stmt_pieces}
@@ -248,8 +247,8 @@ call_read into f xs h called caught k a c b =
 pub call_again : (into : Target) (f : List ℕ) (xs : List Expr) (h : Option Handler) → GoodTarget into → PlainAgain f xs → HandlerAgain h → StmtAgain (call_pieces into f xs h) (s.Call (call_of into f xs h))
 call_again into f xs h g called caught = record {
   good =
-    good_append (target_pieces into ++ plain_call f xs ++ canonical.handler stmt_pieces h) (semicolon ∷ [])
-    (good_append (target_pieces into ++ plain_call f xs) (canonical.handler stmt_pieces h) (good_append (target_pieces into) (plain_call f xs) (good_target into g) called.good) caught.good) (refl, tt);
+      good_append (target_pieces into ++ plain_call f xs ++ canonical.handler stmt_pieces h) (semicolon ∷ [])
+      (good_append (target_pieces into ++ plain_call f xs) (canonical.handler stmt_pieces h) (good_append (target_pieces into) (plain_call f xs) (good_target into g) called.good) caught.good) (refl, tt);
   reads = call_read into f xs h called caught;
 }
 

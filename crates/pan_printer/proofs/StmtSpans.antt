@@ -1,30 +1,15 @@
 -- Statements without their spans, at each variant: they are printed alike.
-use Rattle.std.proofs.Common.{◌≡◌, ℕ, List, [], ◌∷◌, ◌++◌, map, Option, Some, None, refl, sym, ap, ◌∙◌, subst}
-use Rattle.std.specs.Prelude.{flat_map}
+use Rattle.std.proofs.Common.{◌≡◌, ℕ, List, map, Option, Some, None, sym, ap, ◌∙◌}
 use Rattle.std.proofs.lemmas.Simd.{map-map}
 use Rattle.pan_base.specs.declared.events.Size.{Size}
-use Rattle.pan_base.specs.declared.tokens.Keyword.TheVariants as keyword
-use Rattle.pan_base.specs.declared.tokens.Sign.TheVariants as signs
-use Rattle.pan_base.specs.Tokens.{Load, Store, Foreign}
-use Rattle.pan_tree.specs.declared.spanned.Spanned.{Spanned}
 use Rattle.pan_tree.specs.declared.syntax.Target.{Target}
-use Rattle.pan_tree.specs.declared.syntax.BlockOf.{BlockOf}
-use Rattle.pan_tree.specs.declared.syntax.HandlerOf.{HandlerOf}
 use Rattle.pan_tree.specs.declared.syntax.CallOf.{CallOf}
-use Rattle.pan_tree.specs.declared.syntax.StmtKind.{StmtKind, StmtKind-F, fold-roll-StmtKind, roll-StmtKind, map-StmtKind, ind-StmtKind}
+use Rattle.pan_tree.specs.declared.syntax.StmtKind.{StmtKind, StmtKind-F, fold-roll-StmtKind, roll-StmtKind, map-StmtKind}
 use Rattle.pan_tree.specs.declared.syntax.StmtKind.TheOpen as open_stmt
 use Rattle.pan_tree.specs.declared.syntax.StmtKind.TheVariants as s
-use Rattle.pan_tree.specs.declared.program.Program.{Program}
-use Rattle.pan_tree.specs.declared.program.Function.{Function}
-use Rattle.pan_tree.specs.declared.program.Exception.{Exception}
 use Rattle.pan_tree.specs.Nodes.{Expr}
 use Rattle.pan_tree.specs.Grammar.{Stmt, Block, Handler}
-use Rattle.pan_printer.specs.Pieces.{Piece, spaced, sign, word, name, semicolon, with_commas, text_of}
-use Rattle.pan_printer.specs.Expressions.{expr_pieces}
-use Rattle.pan_printer.specs.Canonical.{block, handler, plain_call, target_pieces, two_exprs, kind_pieces, stmt_pieces, exception_pieces, function_pieces, program_pieces, canonical}
-use Rattle.pan_printer.specs.Unspanned.{bare, no_span, unspanned_expr, bare_block, bare_call, unspanned_stmt_layer, unspanned_stmt_kind, unspanned_stmt, unspanned_block, unspanned_exception, unspanned_function, unspanned}
-use Rattle.pan_printer.proofs.Spans.{written_alike, Each, flat_map_same, commas_same}
-use Rattle.pan_printer.proofs.StmtLayers as layers
+use Rattle.pan_printer.specs.Unspanned.{bare, unspanned_expr, unspanned_stmt_layer, unspanned_stmt_kind, unspanned_stmt, unspanned_block}
 
 -- ---- the equations
 

@@ -3,7 +3,7 @@
 ghost use Rattle.std.specs.Prelude.{◌≡◌, ◌++◌, OnOk, IfOk};
 ghost use Rattle.pan_printer.specs.Pieces.{with_commas, text_of};
 ghost use Rattle.pan_printer.specs.Canonical.{param_pieces, result_pieces, exception_pieces, function_pieces, canonical};
-ghost use Rattle.pan_printer.specs.ReadsBack.{Spellable};
+ghost use Rattle.pan_printer.specs.ReadsBack.{ReadsAs, Spellable};
 
 use crate::output::Output;
 use crate::shapes::put_shape;
@@ -90,10 +90,12 @@ fn text_of_program(alloc: Global, program: &Program) -> Result<Blob, NoMemory>
     Ok(out.into_blob())
 }
 
-/// The canonical text of a program that some text reads as.
+/// The canonical text of a program that some text reads as. It reads as the program too.
 pub fn print(alloc: Global, program: &Program) -> Result<Blob, NoMemory>
     requires { Spellable program.now }
     ensures text { IfOk result (λ text. text ≡ canonical program.now) }
+    ensures reads_back { IfOk result (λ text. ReadsAs text program.now) }
 {
-    text_of_program(alloc, program)
+    let text = text_of_program(alloc, program)?;
+    Ok(text)
 }
