@@ -8,6 +8,7 @@ pub mod Layers
 pub mod PartReading
 pub mod Places
 pub mod ProgramReading
+pub mod Sample
 pub mod ShapeReading
 pub mod Spans
 pub mod StmtAlike

@@ -12,7 +12,7 @@ use Rattle.pan_tree.specs.declared.program.Exception.{Exception}
 use Rattle.pan_tree.specs.declared.program.Function.{Function}
 use Rattle.pan_tree.specs.declared.program.Program.{Program}
 use Rattle.pan_tree.specs.Nodes.{between}
-use Rattle.pan_tree.specs.Grammar.{IsWord, AShape, one_word, many_words, group, AParam, param, MoreParams, no_param, next_param, Params, no_params, params, Result, no_result, result, AnException, exception, AFunction, function, Items, no_item, next_exception, next_function, Derives}
+use Rattle.pan_tree.specs.Grammar.{IsWord, AShape, one_word, many_words, group, AParam, param, MoreParams, no_param, next_param, Params, no_params, params, Result, no_result, result, AnException, exception, AFunction, function, Items, no_item, next_exception, next_function}
 use Rattle.pan_printer.specs.Pieces.{Piece, sign, word, name, semicolon, with_commas, text_of}
 use Rattle.pan_printer.specs.Expressions.{shape_pieces}
 use Rattle.pan_printer.specs.Canonical.{stmt_pieces, result_pieces, param_pieces, exception_pieces, function_pieces, program_pieces, canonical}
@@ -288,9 +288,8 @@ items_again a xs _ (next_function _ b f _ fs first others) h =
 
 -- ---- programs
 
-program_again : (tokens : List Placed) (q : Program) → Derives tokens q → Printable tokens → ReadsAs (canonical q) q
-program_again tokens q d h =
-    let r = items_again tokens q.exceptions q.functions d h in
+items_read : (q : Program) → ItemsAgain q.exceptions q.functions → ReadsAs (canonical q) q
+items_read q r =
     let row = reads_pieces 0 (program_pieces q) (good_append (flat_map exception_pieces q.exceptions) (flat_map function_pieces q.functions) r.good_exceptions r.good_functions) in
     let s = split (flat_map exception_pieces q.exceptions) (flat_map function_pieces q.functions) row.tokens [] row.begins in
     let xs = r.exceptions row.tokens s.middle s.front in
@@ -303,6 +302,22 @@ program_again tokens q d h =
 pub canonical_reads : (p : Program) → Spellable p → ReadsAs (canonical p) p
 canonical_reads p h =
     let r = h.1 in
-    let again = program_again r.0 r.1 r.3 (row_prints 0 h.0 [] r.0 r.2) in
+    let again = items_read r.1 (items_again r.0 (r.1).exceptions (r.1).functions r.3 (row_prints 0 h.0 [] r.0 r.2)) in
     let text : canonical r.1 ≡ canonical p = ap text_of (sym (same_pieces p r.1 r.4)) in
     (again.0, again.1, subst (λ text. Lexes text again.0) text again.2, again.3, r.4 ∙ again.4)
+
+-- ---- a sample
+
+-- a function without parameters whose result is one word and whose body is a block that is read, alone
+pub one_function : (f : Function) → IsPrintable (Name f.name) → f.params ≡ [] → f.result ≡ shape.Word → BlockAgain f.body → Spellable (record { exceptions = []; functions = f ∷ [] })
+one_function f g empty one body =
+    let r : ReadsResult f.result (result_pieces f.result) = subst (λ z. ReadsResult z (result_pieces z)) (sym one) left_out in
+    let ps : ReadsParams f.params = subst ReadsParams (sym empty) (record { good = tt; reads = no_params_read }) in
+    let good : Good (function_pieces f) = (refl, good_append (result_pieces f.result ++ middle_pieces f) (body_pieces f) (good_append (result_pieces f.result) (middle_pieces f) r.good (g, (refl, ps.good))) (refl, body.good)) in
+    let alone : Program = record { exceptions = []; functions = f ∷ [] } in
+    (canonical alone, items_read alone (record {
+      good_exceptions = tt;
+      good_functions = good_append (function_pieces f) [] good tt;
+      exceptions = no_exceptions_read;
+      functions = functions_read f [] (function_read f r ps body) no_functions_read;
+    }))

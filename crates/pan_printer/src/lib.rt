@@ -8,5 +8,7 @@ mod programs;
 mod shapes;
 mod spelling;
 mod statements;
+#[cfg(test)]
+mod tests;
 
 pub use programs::print;

@@ -77,7 +77,7 @@ fn put_function(out: &mut Output, function: &Function) -> Result<(), NoMemory>
 
 /// The text of any program.
 #[tactic(auto, using(crate::proofs::Texts::text_rules))]
-fn text_of_program(alloc: Global, program: &Program) -> Result<Blob, NoMemory>
+pub fn text_of_program(alloc: Global, program: &Program) -> Result<Blob, NoMemory>
     ensures { IfOk result (λ text. text ≡ canonical program.now) }
 {
     let mut out = Output::new(alloc);
