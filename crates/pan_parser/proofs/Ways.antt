@@ -1,15 +1,12 @@
 -- What the machine does with the symbols that a function reads.
-use Rattle.std.proofs.Common.{◌≡◌, ℕ, zero, suc, Bool, true, false, if◌then◌else◌, List, [], ◌∷◌, ◌++◌, sym, ap, ◌∙◌, subst, refl, nat_eq, rules, arith}
-use Rattle.std.proofs.lemmas.Bool.Decides.{nat_tests}
-use Rattle.pan_base.specs.declared.tokens.Keyword.{Keyword}
-use Rattle.pan_base.specs.declared.tokens.Sign.{Sign}
-use Rattle.pan_base.specs.Tokens.{Placed, Kind, Name, Reserved, Number, ASign}
+use Rattle.std.proofs.Common.{◌≡◌, ℕ, List, [], ◌∷◌, ◌++◌, ap, ◌∙◌, refl}
+use Rattle.pan_base.specs.Tokens.{Placed}
 use Rattle.pan_lexer.specs.TokenRow.{TokenRow}
 use Rattle.pan_tree.specs.Grammar.{nesting_limit}
 use Rattle.pan_parser.specs.declared.error.ParseError.{ParseError}
 use Rattle.pan_parser.specs.declared.error.ParseError.TheVariants as error
-use Rattle.pan_parser.specs.Machine.{Symbol, WantSign, WantWord, WantName, WantNumber, Stack, Step, Goes, Refused, Deep, sign_order, word_order, is_sign, is_word, a_name, a_number, step, go_on, run}
-use Rattle.pan_parser.specs.Reading.{left, Comes, IsOne, Reads, Stops, StopsIn}
+use Rattle.pan_parser.specs.Machine.{Symbol, Stack, Goes, step, go_on, run}
+use Rattle.pan_parser.specs.Reading.{left, Comes, Reads, Stops, StopsIn}
 
 -- ---- one symbol after another
 

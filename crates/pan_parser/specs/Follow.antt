@@ -1,5 +1,5 @@
 -- What a reading function promises: that it took all that it could, or where the machine stops.
-use Rattle.std.specs.Prelude.{◌≡◌, ℕ, Bool, false, List, [], ◌∷◌, None}
+use Rattle.std.specs.Prelude.{◌≡◌, ℕ, false, List, [], ◌∷◌, None}
 use Rattle.pan_base.specs.declared.tokens.Sign.{Sign}
 use Rattle.pan_base.specs.declared.tokens.Sign.TheVariants as sign
 use Rattle.pan_base.specs.declared.tokens.Keyword.TheVariants as keyword
