@@ -1,5 +1,5 @@
 -- What the whole run says of the answer.
-use Rattle.std.proofs.Common.{◌≡◌, ℕ, List}
+use Rattle.std.proofs.Common.{◌≡◌, List}
 use Rattle.pan_base.specs.Tokens.{Placed}
 use Rattle.pan_tree.specs.declared.program.Program.{Program}
 use Rattle.pan_tree.specs.Grammar.{Within, Tree}

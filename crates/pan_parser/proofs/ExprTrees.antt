@@ -1,11 +1,11 @@
 -- The trees of expressions.
-use Rattle.std.proofs.Common.{◌≡◌, ℕ, ◌+◌, ◌<◌, List, [], ◌∷◌, Some, Result, sym, ap, ◌∙◌, subst, arith}
+use Rattle.std.proofs.Common.{◌≡◌, ℕ, ◌+◌, ◌<◌, List, ◌∷◌, sym, ap, ◌∙◌, subst, arith}
 use Rattle.pan_base.specs.declared.operators.BinOp.{BinOp}
 use Rattle.pan_base.specs.declared.operators.ShOp.{ShOp}
 use Rattle.pan_base.specs.declared.operators.Cmp.{Cmp}
 use Rattle.pan_base.specs.declared.tokens.Keyword.TheVariants as keyword
 use Rattle.pan_base.specs.declared.tokens.Sign.TheVariants as sign
-use Rattle.pan_base.specs.Tokens.{Placed, Name, Number, Base, Biw, ASign}
+use Rattle.pan_base.specs.Tokens.{Placed, Number, Base, Biw, ASign}
 use Rattle.pan_lexer.specs.TokenRow.{TokenRow}
 use Rattle.pan_tree.specs.declared.level.Level.{Level}
 use Rattle.pan_tree.specs.declared.level.Level.TheVariants as level
@@ -13,7 +13,7 @@ use Rattle.pan_tree.specs.declared.shape.Shape.{Shape}
 use Rattle.pan_tree.specs.declared.syntax.ExprKind.{ExprKind}
 use Rattle.pan_tree.specs.declared.syntax.ExprKind.TheVariants as e
 use Rattle.pan_tree.specs.Nodes.{Expr, node, chain, shifted, field, comparison}
-use Rattle.pan_tree.specs.Grammar.{Is, IsWord, IsName, nesting_limit, Within, AShape, Shifts, Fields, AnExpr, one_comparison, Chain, chained, Operand, of_or, of_xor, of_and, of_sum, of_product, Terms, AShift, shift, Unary, negation, load_words, load_byte, postfix, Primary, number, variable, base, biw, parentheses, struct, MoreExprs}
+use Rattle.pan_tree.specs.Grammar.{Is, IsWord, IsName, nesting_limit, Within, AShape, Shifts, Fields, AnExpr, one_comparison, Chain, chained, Operand, Terms, AShift, shift, Unary, negation, load_words, load_byte, postfix, Primary, number, variable, base, biw, parentheses, struct, MoreExprs}
 use Rattle.pan_parser.specs.Reading.{left, Comes, IsOne, Means, SomeExprs}
 
 -- ---- what stands between operators

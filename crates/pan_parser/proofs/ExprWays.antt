@@ -1,5 +1,5 @@
 -- What has been read of chains and of lists of expressions.
-use Rattle.std.proofs.Common.{◌≡◌, ℕ, ◌+◌, ◌<◌, ◌≤◌, if◌then◌else◌, List, [], ◌∷◌, ◌++◌, length, Some, sym, ap, ◌∙◌, subst, refl, arith, append_assoc, append-nil}
+use Rattle.std.proofs.Common.{ℕ, ◌<◌, ◌≤◌, if◌then◌else◌, List, [], ◌∷◌, ◌++◌, length, sym, ap, subst, refl, arith, append_assoc, append-nil}
 use Rattle.pan_base.specs.declared.operators.BinOp.{BinOp}
 use Rattle.pan_base.specs.declared.tokens.Sign.TheVariants as sign
 use Rattle.pan_base.specs.Tokens.{Placed, ASign}

@@ -1,14 +1,14 @@
 -- What is left of a row of tokens, and the places that it gives.
-use Rattle.std.proofs.Common.{◌≡◌, ℕ, ◌+◌, ◌-◌, ◌<◌, ◌≤◌, List, [], ◌∷◌, length, get_or, drop, Option, Some, sym, ap, ◌∙◌, subst, refl, rules, arith, length-drop}
+use Rattle.std.proofs.Common.{◌≡◌, ℕ, ◌+◌, ◌-◌, ◌<◌, ◌≤◌, [], ◌∷◌, length, get_or, drop, Some, sym, ap, ◌∙◌, arith, length-drop}
 use Rattle.std.specs.Prelude.{slice_get}
 use Rattle.std.specs.Option.{option_map_or}
 use Rattle.std.proofs.lemmas.List.{drop_more, drop_all, get_or-drop}
 use Rattle.std.proofs.lemmas.Option.{get_or_from_slice_get, slice_get-get_or}
 use Rattle.pan_base.specs.declared.span.Span.{Span}
-use Rattle.pan_base.specs.Tokens.{Placed, Kind}
+use Rattle.pan_base.specs.Tokens.{Placed}
 use Rattle.pan_lexer.specs.TokenRow.{TokenRow, IsSpelled}
 use Rattle.pan_tree.specs.Nodes.{start_of, end_before, between}
-use Rattle.pan_parser.specs.Reading.{left, Comes, IsOne}
+use Rattle.pan_parser.specs.Reading.{left, Comes}
 
 pub comes : (row : TokenRow) (at : ℕ) (t : Placed) → slice_get row.tokens at ≡ Some t → at < length row.tokens → IsSpelled t.kind → Comes row at (at + 1) t
 unfolding left

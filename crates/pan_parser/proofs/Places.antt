@@ -21,13 +21,13 @@ not_refused e f = cc
 pub not_deep : {v : Verdict} {a : List Placed} → v ≡ Accepted → v ≡ TooDeep a → ⊥
 not_deep e f = cc
 
-not_both : {v : Verdict} {a b : List Placed} → v ≡ Refuses a → v ≡ TooDeep b → ⊥
+pub not_both : {v : Verdict} {a b : List Placed} → v ≡ Refuses a → v ≡ TooDeep b → ⊥
 not_both e f = cc
 
-same_refused : (v : Verdict) (a b : List Placed) → v ≡ Refuses a → v ≡ Refuses b → a ≡ b
+pub same_refused : (v : Verdict) (a b : List Placed) → v ≡ Refuses a → v ≡ Refuses b → a ≡ b
 same_refused v a b e f = cc
 
-same_deep : (v : Verdict) (a b : List Placed) → v ≡ TooDeep a → v ≡ TooDeep b → a ≡ b
+pub same_deep : (v : Verdict) (a b : List Placed) → v ≡ TooDeep a → v ≡ TooDeep b → a ≡ b
 same_deep v a b e f = cc
 
 -- what the whole stack spells is a program
@@ -44,7 +44,7 @@ module _ (n : ℕ) where
     here : (K : Stack) → Reaches K [] K
     more : (K L J : Stack) (t : Placed) (ts : List Placed) → step n K t ≡ Goes L → Reaches L ts J → Reaches K (t ∷ ts) J
 
-  forward : {K J : Stack} {ts : List Placed} → Reaches K ts J → (ys : List Placed) → run n (ts ++ ys) K ≡ run n ys J
+  pub forward : {K J : Stack} {ts : List Placed} → Reaches K ts J → (ys : List Placed) → run n (ts ++ ys) K ≡ run n ys J
   forward (here K) ys = refl
   forward (more K L J t ts e r) ys = ap (λ z. go_on z (t ∷ (ts ++ ys)) (run n (ts ++ ys))) e ∙ forward r ys
 
@@ -54,7 +54,7 @@ module _ (n : ℕ) where
     refused : (us : List Placed) (J : Stack) (t : Placed) (after : List Placed) → ts ≡ us ++ t ∷ after → Reaches K us J → step n J t ≡ Refused → Outcome K ts
     nested : (us : List Placed) (J L : Stack) (t : Placed) (after : List Placed) → ts ≡ us ++ t ∷ after → Reaches K us J → step n J t ≡ Deep L → Outcome K ts
 
-  ended_cases : (K : Stack) → (ended K ≡ Accepted) ⊎ (ended K ≡ Refuses [])
+  pub ended_cases : (K : Stack) → (ended K ≡ Accepted) ⊎ (ended K ≡ Refuses [])
   ended_cases [] = inl refl
   ended_cases (machine.MoreShapes k ∷ K) = ended_cases K
   ended_cases (MayShape k ∷ K) = ended_cases K
@@ -93,20 +93,20 @@ module _ (n : ℕ) where
     back (more K L J t ts e r) ys h = sound n Free May may K t (ts ++ ys) (subst (λ z. After May Free z (ts ++ ys)) (sym e) (back r ys h))
 
     -- the tokens, and those that finish them, spell a program
-    spelled : {J : Stack} {ts : List Placed} → Reaches whole ts J → (ys : List Placed) → Spells May J ys → (p : Program) × IsProgram May (ts ++ ys) p
+    pub spelled : {J : Stack} {ts : List Placed} → Reaches whole ts J → (ys : List Placed) → Spells May J ys → (p : Program) × IsProgram May (ts ++ ys) p
     spelled {ts = ts} r ys h = a_program May (ts ++ ys) (back r ys h)
 
-  viable_deeper : {J : Stack} {ts : List Placed} (L : Stack) (t : Placed) → Reaches whole ts J → step n J t ≡ Deep L → Viable (ts ++ t ∷ [])
+  pub viable_deeper : {J : Stack} {ts : List Placed} (L : Stack) (t : Placed) → Reaches whole ts J → step n J t ≡ Deep L → Viable (ts ++ t ∷ [])
   viable_deeper {J = J} {ts = ts} L t r e =
       let may = λ (j : ℕ) (rest : List Placed) (l : (j ≤ n) ⊎ Unit {0}). tt in
       let h = sound n (Unit {0}) (λ j rest. Unit {0}) may J t (finish L) (subst (λ z. After (λ j rest. Unit {0}) (Unit {0}) z (finish L)) (sym e) (tt, finished (λ j rest. Unit {0}) L (λ j rest l. tt))) in
       let p = spelled (Unit {0}) (λ j rest. Unit {0}) may r (t ∷ finish L) h in
       (finish L, p.0, subst (λ a. IsProgram (λ j rest. Unit {0}) a p.0) (sym (append_assoc ts (t ∷ []) (finish L))) p.1)
 
-  at_token : (us : List Placed) (J : Stack) (t : Placed) (after : List Placed) (z : Step) → Reaches whole us J → step n J t ≡ z → run n (us ++ t ∷ after) whole ≡ go_on z (t ∷ after) (run n after)
+  pub at_token : (us : List Placed) (J : Stack) (t : Placed) (after : List Placed) (z : Step) → Reaches whole us J → step n J t ≡ z → run n (us ++ t ∷ after) whole ≡ go_on z (t ∷ after) (run n after)
   at_token us J t after z r e = forward r (t ∷ after) ∙ ap (λ z. go_on z (t ∷ after) (run n after)) e
 
-viable_within : {J : Stack} {ts : List Placed} → Reaches nesting_limit whole ts J → ViableWithin ts
+pub viable_within : {J : Stack} {ts : List Placed} → Reaches nesting_limit whole ts J → ViableWithin ts
 viable_within {J = J} r =
     let p = spelled nesting_limit ⊥ (InFront (finish J)) (λ j rest l. ⊎_elim (λ l _. l) (λ f. absurd f) l) r (finish J) (finished (InFront (finish J)) J (λ j rest l m. omega (arith, l, m))) in
     (finish J, p.0, p.1)
@@ -114,14 +114,14 @@ viable_within {J = J} r =
 -- ---- programs
 
 -- no program is refused
-no_refusal : (May : ℕ → List Placed → Type 0) (a rest : List Placed) (p : Program) → IsProgram May a p → run nesting_limit a whole ≡ Refuses rest → ⊥
+pub no_refusal : (May : ℕ → List Placed → Type 0) (a rest : List Placed) (p : Program) → IsProgram May a p → run nesting_limit a whole ≡ Refuses rest → ⊥
 no_refusal May a rest p d e = elim (program_leads nesting_limit May d) [
   | there f ↦ not_refused f e
   | deep j r m l f ↦ not_both e f
 ]
 
 -- a token that nests too deep may not stand there
-too_deep : (May : ℕ → List Placed → Type 0) (a rest : List Placed) (p : Program) → IsProgram May a p → run nesting_limit a whole ≡ TooDeep rest → (j : ℕ) × May j rest × (nesting_limit < j)
+pub too_deep : (May : ℕ → List Placed → Type 0) (a rest : List Placed) (p : Program) → IsProgram May a p → run nesting_limit a whole ≡ TooDeep rest → (j : ℕ) × May j rest × (nesting_limit < j)
 too_deep May a rest p d e = elim (program_leads nesting_limit May d) [
   | there f ↦ absurd (not_deep f e)
   | deep j r m l f ↦ (j, subst (May j) (same_deep _ r rest f e) m, l)

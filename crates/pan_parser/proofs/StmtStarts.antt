@@ -2,8 +2,7 @@
 use Rattle.std.proofs.Common.{◌≡◌, ℕ, Bool, true, false, if◌then◌else◌, ◌&&◌, List, [], ◌∷◌, sym, ap, ◌∙◌, refl}
 use Rattle.pan_base.specs.declared.events.Size.{Size}
 use Rattle.pan_base.specs.declared.tokens.Sign.TheVariants as sign
-use Rattle.pan_base.specs.declared.tokens.Keyword.TheVariants as keyword
-use Rattle.pan_base.specs.Tokens.{Placed, Kind, Name, Load, Reserved, ASign}
+use Rattle.pan_base.specs.Tokens.{Placed, Kind, Name, Load}
 use Rattle.pan_tree.specs.Grammar.{IsName, nesting_limit}
 use Rattle.pan_parser.specs.Machine as machine
 use Rattle.pan_parser.specs.Machine.{WantExpr, MoreExprs, MayArguments, WantPlain, WantName, WantSign, Stack, Goes, Refused, begin, expr_rest, begin_stmt, step, go_on, run}

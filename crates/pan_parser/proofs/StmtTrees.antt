@@ -1,5 +1,5 @@
 -- The trees of statements, behind what they begin with.
-use Rattle.std.proofs.Common.{◌≡◌, ℕ, ◌+◌, ◌<◌, ◌≤◌, List, [], ◌∷◌, ◌++◌, length, Option, Some, None, sym, ap, ◌∙◌, subst, refl, arith, append_assoc, append-nil}
+use Rattle.std.proofs.Common.{◌≡◌, ℕ, ◌+◌, ◌<◌, ◌≤◌, List, [], ◌∷◌, ◌++◌, length, Option, Some, sym, ap, ◌∙◌, subst, arith, append_assoc, append-nil}
 use Rattle.pan_base.specs.declared.events.Size.{Size}
 use Rattle.pan_base.specs.declared.tokens.Keyword.{Keyword}
 use Rattle.pan_base.specs.declared.tokens.Keyword.TheVariants as keyword
@@ -9,7 +9,6 @@ use Rattle.pan_lexer.specs.TokenRow.{TokenRow}
 use Rattle.pan_tree.specs.declared.syntax.CallOf.{CallOf}
 use Rattle.pan_tree.specs.declared.syntax.StmtKind.{StmtKind}
 use Rattle.pan_tree.specs.declared.syntax.StmtKind.TheVariants as s
-use Rattle.pan_tree.specs.declared.syntax.Target.{Target}
 use Rattle.pan_tree.specs.declared.syntax.Target.TheVariants as target
 use Rattle.pan_tree.specs.Nodes.{Expr, node}
 use Rattle.pan_tree.specs.Grammar as grammar

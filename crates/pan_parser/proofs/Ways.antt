@@ -1,15 +1,10 @@
 -- What the machine does with the symbols that a function reads.
-use Rattle.std.proofs.Common.{◌≡◌, ℕ, zero, suc, Bool, true, false, if◌then◌else◌, List, [], ◌∷◌, ◌++◌, sym, ap, ◌∙◌, subst, refl, nat_eq, rules, arith}
-use Rattle.std.proofs.lemmas.Bool.Decides.{nat_tests}
-use Rattle.pan_base.specs.declared.tokens.Keyword.{Keyword}
-use Rattle.pan_base.specs.declared.tokens.Sign.{Sign}
-use Rattle.pan_base.specs.Tokens.{Placed, Kind, Name, Reserved, Number, ASign}
+use Rattle.std.proofs.Common.{◌≡◌, ℕ, List, [], ◌∷◌, ◌++◌, ap, ◌∙◌}
+use Rattle.pan_base.specs.Tokens.{Placed}
 use Rattle.pan_lexer.specs.TokenRow.{TokenRow}
 use Rattle.pan_tree.specs.Grammar.{nesting_limit}
-use Rattle.pan_parser.specs.declared.error.ParseError.{ParseError}
-use Rattle.pan_parser.specs.declared.error.ParseError.TheVariants as error
-use Rattle.pan_parser.specs.Machine.{Symbol, WantSign, WantWord, WantName, WantNumber, Stack, Step, Goes, Refused, Deep, sign_order, word_order, is_sign, is_word, a_name, a_number, step, go_on, run}
-use Rattle.pan_parser.specs.Reading.{left, Comes, IsOne, Reads, Stops, StopsIn}
+use Rattle.pan_parser.specs.Machine.{Symbol, Stack, Goes, step, go_on, run}
+use Rattle.pan_parser.specs.Reading.{left, Comes, Reads}
 
 -- ---- one symbol after another
 
@@ -17,36 +12,11 @@ use Rattle.pan_parser.specs.Reading.{left, Comes, IsOne, Reads, Stops, StopsIn}
 pub record Passes (J : Stack) (a : List Placed) (L : Stack) (b : List Placed) : Type 0 where
   pub by : (K : Stack) → run nesting_limit a (J ++ K) ≡ run nesting_limit b (L ++ K)
 
-pub stays : (J : Stack) (a : List Placed) → Passes J a J a
-stays J a = record { by = λ K. refl }
-
 pub on : {J L M : Stack} {a b c : List Placed} → Passes J a L b → Passes L b M c → Passes J a M c
 on p q = record { by = λ K. p.by K ∙ q.by K }
 
 pub one_read : {x : Symbol} {J : Stack} {a b : List Placed} → Reads (x ∷ []) a b → Passes (x ∷ J) a J b
 one_read {J = J} r = record { by = λ K. r.by (J ++ K) }
-
-pub all_read : {J : Stack} {a b : List Placed} → Passes J a [] b → Reads J a b
-all_read p = record { by = p.by }
-
-pub some_read : {J L : Stack} {a b c : List Placed} → Passes J a L b → Reads L b c → Reads J a c
-some_read p r = record { by = λ K. p.by K ∙ r.by K }
-
-pub stops_on : {J L : Stack} {end : ℕ} {a b : List Placed} {e : ParseError} → Passes J a L b → Stops end L b e → Stops end J a e
-stops_on {J = J} {L = L} {end = end} {a = a} {b = b} {e = e} p s = record { by = by_error e s.by }
-  where
-    by_error : (e : ParseError) → StopsIn end L b e → StopsIn end J a e
-    by_error error.NoMemory h = tt
-    by_error (error.Syntax place) h = (h.0, h.1, λ K. p.by K ∙ h.2 K)
-    by_error (error.TooDeep place) h = (h.0, h.1, λ K. p.by K ∙ h.2 K)
-
-pub stops_first : {x : Symbol} {J : Stack} {end : ℕ} {a : List Placed} {e : ParseError} → Stops end (x ∷ []) a e → Stops end (x ∷ J) a e
-stops_first {x = x} {J = J} {end = end} {a = a} {e = e} s = record { by = by_error e s.by }
-  where
-    by_error : (e : ParseError) → StopsIn end (x ∷ []) a e → StopsIn end (x ∷ J) a e
-    by_error error.NoMemory h = tt
-    by_error (error.Syntax place) h = (h.0, h.1, λ K. h.2 (J ++ K))
-    by_error (error.TooDeep place) h = (h.0, h.1, λ K. h.2 (J ++ K))
 
 -- ---- one token
 

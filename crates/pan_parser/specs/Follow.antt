@@ -1,5 +1,5 @@
--- What a reading function promises: that it took all that it could, or where the machine stops.
-use Rattle.std.specs.Prelude.{◌≡◌, ℕ, Bool, false, List, [], ◌∷◌, None}
+-- What can't follow a part that took all that it could, and where the machine stops in the whole run.
+use Rattle.std.specs.Prelude.{◌≡◌, ℕ, false, List, [], ◌∷◌, None}
 use Rattle.pan_base.specs.declared.tokens.Sign.{Sign}
 use Rattle.pan_base.specs.declared.tokens.Sign.TheVariants as sign
 use Rattle.pan_base.specs.declared.tokens.Keyword.TheVariants as keyword
@@ -10,7 +10,7 @@ use Rattle.pan_tree.specs.Nodes.{operator_at, shift_operator, comparison}
 use Rattle.pan_tree.specs.Grammar.{nesting_limit}
 use Rattle.pan_parser.specs.declared.error.ParseError.{ParseError}
 use Rattle.pan_parser.specs.declared.error.ParseError.TheVariants as error
-use Rattle.pan_parser.specs.Machine.{Symbol, Stack, is_sign, is_word, run, whole, Refuses, TooDeep}
+use Rattle.pan_parser.specs.Machine.{is_sign, is_word, run, whole, Refuses, TooDeep}
 use Rattle.pan_parser.specs.Answers.{place_of}
 
 -- the tokens begin with none that does this
@@ -50,12 +50,6 @@ AfterChain l a = AfterOperand l a × NoTerm l a
 -- what can't follow an expression
 abbrev pub AfterExpr : List Placed → Type 0
 AfterExpr a = AfterChain level.Or a × NoCompare a
-
--- where the symbol is to be read, the machine stops as the error says, whatever was to come later
-abbrev pub Stops : ℕ → Symbol → List Placed → ParseError → Type 0
-Stops end x ts error.NoMemory = Unit {0}
-Stops end x ts (error.Syntax place) = (rest : List Placed) × (place ≡ place_of rest end) × ((K : Stack) → run nesting_limit ts (x ∷ K) ≡ Refuses rest)
-Stops end x ts (error.TooDeep place) = (rest : List Placed) × (place ≡ place_of rest end) × ((K : Stack) → run nesting_limit ts (x ∷ K) ≡ TooDeep rest)
 
 -- the machine stops in the whole run as the error says
 abbrev pub Halts : ℕ → List Placed → ParseError → Type 0

@@ -1,6 +1,5 @@
 -- What the functions say that read the items of a program.
-use Rattle.std.specs.Prelude.{◌≡◌, ℕ, Bool, true, false, List, [], ◌∷◌, ◌++◌}
-use Rattle.pan_base.specs.declared.tokens.Keyword.TheVariants as keyword
+use Rattle.std.specs.Prelude.{◌≡◌, ℕ, Bool, false, List, [], ◌∷◌, ◌++◌}
 use Rattle.pan_base.specs.declared.tokens.Sign.TheVariants as sign
 use Rattle.pan_base.specs.Tokens.{Placed}
 use Rattle.pan_tree.specs.declared.shape.Shape.{Shape}

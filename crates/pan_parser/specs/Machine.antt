@@ -1,8 +1,5 @@
 -- The grammar as a machine: what must still come is a stack of symbols, and each token takes one step.
 use Rattle.std.specs.Prelude.{ℕ, zero, suc, ◌+◌, Bool, true, false, if◌then◌else◌, List, [], ◌∷◌, Option, Some, None, nat_eq, nat_lt}
-use Rattle.pan_base.specs.declared.operators.BinOp.{BinOp}
-use Rattle.pan_base.specs.declared.operators.ShOp.{ShOp}
-use Rattle.pan_base.specs.declared.operators.Cmp.{Cmp}
 use Rattle.pan_base.specs.declared.tokens.Keyword.{Keyword}
 use Rattle.pan_base.specs.declared.tokens.Keyword.TheVariants as keyword
 use Rattle.pan_base.specs.declared.tokens.Sign.{Sign}

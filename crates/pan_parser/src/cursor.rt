@@ -1,4 +1,8 @@
 //! The tokens of a row, one after another.
+//!
+//! A reading function answers what it has read and the number of the token that follows. Its clauses: `tree`, the tokens
+//! spell this by the grammar; `reads`, the machine of `specs/Machine.antt` has read the same, so no function says what
+//! may follow; `ahead`, that some tokens were read; `err`, the machine stops where the error says.
 
 ghost use Rattle.std.specs.Prelude.{◌≡◌, false, ◌+◌, ◌<◌, ◌≤◌, [], ◌∷◌, length, IfOk, IfErr, IfSome, IfNone};
 ghost use Rattle.pan_base.specs.Tokens.{Kind, placed};

@@ -12,6 +12,8 @@ mod parsing;
 mod shapes;
 mod simple;
 mod statements;
+#[cfg(test)]
+mod tests;
 mod text;
 
 pub use error::ParseError;

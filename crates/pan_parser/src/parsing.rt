@@ -27,6 +27,7 @@ pub fn parse(alloc: Global, tokens: &Tokens<'_>) -> Result<Program, ParseError>
 
     // An error tells the earliest place where they spell none, and why.
     ensures refused { IfErr result (λ e. (e ≡ ParseError.NoMemory) ⊎ Refusal tokens.now.tokens tokens.now.source_len e) }
+    ensures exact { (e : IsParseError) → Refusal tokens.now.tokens tokens.now.source_len e → (result ≡ Err e) ⊎ (result ≡ Err ParseError.NoMemory) }
 {
     let program = program(alloc, tokens)?;
     Ok(program)

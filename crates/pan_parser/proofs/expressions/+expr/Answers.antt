@@ -1,7 +1,7 @@
-use Rattle.std.proofs.Common.{rules, sym, ap, subst, arith}
+use Rattle.std.proofs.Common.{rules, ap}
 use Rattle.std.proofs.lemmas.Result.{IfOk-weaker}
 use Rattle.pan_base.specs.Tokens.{kind_of}
-use Rattle.pan_tree.specs.Grammar.{Within, no_comparison, Operand, of_or, of_xor, of_and, of_sum, of_product}
+use Rattle.pan_tree.specs.Grammar.{no_comparison, of_or, of_xor, of_and, of_sum, of_product}
 use Rattle.pan_parser.specs.Reading.{left}
 use Rattle.pan_parser.proofs.ExprWays.{exprs_one, exprs_more, exprs_done, terms_more, terms_done}
 use Rattle.pan_parser.proofs.ExprTrees.{chain_tree, shift_tree, postfix_tree, compare_tree, negation_tree, load_byte_tree, load_words_tree, number_tree, base_tree, biw_tree, variable_tree, parentheses_tree, struct_tree}

@@ -1,5 +1,5 @@
 use Rattle.std.proofs.Common.{arith}
-use Rattle.pan_parser.proofs.ItemTrees.{items_none, items_more, items_done, halts_on}
+use Rattle.pan_parser.proofs.ItemTrees.{items_none, items_more, items_done}
 use Rattle.pan_parser.proofs.items.program.Goals as goal
 
 pub items-init : goal.items-init

@@ -1,5 +1,5 @@
-use Rattle.std.proofs.Common.{rules, ap, ◌∙◌, arith}
-use Rattle.pan_base.specs.Tokens.{kind_of, ASign}
+use Rattle.std.proofs.Common.{rules, ap}
+use Rattle.pan_base.specs.Tokens.{kind_of}
 use Rattle.pan_parser.proofs.ShapeWays.{takes_width, takes_group, shapes_more, shapes_done}
 use Rattle.pan_parser.proofs.shapes.+shapes.Goals as goal
 
