@@ -314,10 +314,12 @@ one_function f g empty one body =
     let r : ReadsResult f.result (result_pieces f.result) = subst (λ z. ReadsResult z (result_pieces z)) (sym one) left_out in
     let ps : ReadsParams f.params = subst ReadsParams (sym empty) (record { good = tt; reads = no_params_read }) in
     let good : Good (function_pieces f) = (refl, good_append (result_pieces f.result ++ middle_pieces f) (body_pieces f) (good_append (result_pieces f.result) (middle_pieces f) r.good (g, (refl, ps.good))) (refl, body.good)) in
-    let alone : Program = record { exceptions = []; functions = f ∷ [] } in
-    (canonical alone, items_read alone (record {
-      good_exceptions = tt;
-      good_functions = good_append (function_pieces f) [] good tt;
-      exceptions = no_exceptions_read;
-      functions = functions_read f [] (function_read f r ps body) no_functions_read;
-    }))
+    let alone : Program = record { exceptions = []; functions = f ∷ [] } in (
+      canonical alone,
+      items_read alone (record {
+        good_exceptions = tt;
+        good_functions = good_append (function_pieces f) [] good tt;
+        exceptions = no_exceptions_read;
+        functions = functions_read f [] (function_read f r ps body) no_functions_read;
+      }),
+    )

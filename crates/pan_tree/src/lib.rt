@@ -12,5 +12,7 @@ pub use level::Level;
 pub use program::{Exception, Function, Param, Program};
 pub use shape::Shape;
 pub use spanned::Spanned;
-pub use syntax::{Block, BlockOf, Call, CallOf, Expr, ExprKind, Handler, HandlerOf, Stmt, StmtKind, Target};
+pub use syntax::{
+    Block, BlockOf, Call, CallOf, Expr, ExprKind, Handler, HandlerOf, Stmt, StmtKind, Target,
+};
 pub use weighing::weight;

@@ -17,7 +17,7 @@ returns-then-not-is_store-clause-no c =
 pub loop-stmt-preserved : goal.loop-stmt-preserved
 loop-stmt-preserved c =
     All-more Stores c.args.stmts.now c.loop-stmt.stmt-index c.stmt-item.result c.loop-stmt-test.true c.loop-stmt.invariant
-        (subst Stores c.stmt-item.is (c.is_store.ensures.yes c.if-not-is_store.false))
+    (subst Stores c.stmt-item.is (c.is_store.ensures.yes c.if-not-is_store.false))
 
 pub returns-clause-yes : goal.returns-clause-yes
 returns-clause-yes c = λ h. subst (All Stores) (take_all c.loop-stmt.stmt-index c.args.stmts.now c.loop-stmt-test.false) c.loop-stmt.invariant

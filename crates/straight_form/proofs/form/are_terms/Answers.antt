@@ -23,7 +23,7 @@ returns-then-not-is_number-clause-no c =
 pub loop-op-preserved : goal.loop-op-preserved
 loop-op-preserved c =
     All-more Adds c.args.terms.now c.loop-op.op-index c.loop-op-item.result c.loop-op-test.true c.loop-op.invariant
-        (subst Adds c.loop-op-item.is (c.is_add.ensures.yes c.if-not-is_add.false, c.is_number.ensures.yes c.if-not-is_number.false))
+    (subst Adds c.loop-op-item.is (c.is_add.ensures.yes c.if-not-is_add.false, c.is_number.ensures.yes c.if-not-is_number.false))
 
 pub returns-clause-yes : goal.returns-clause-yes
 returns-clause-yes c = λ h. subst (All Adds) (take_all c.loop-op.op-index c.args.terms.now c.loop-op-test.false) c.loop-op.invariant
