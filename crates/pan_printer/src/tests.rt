@@ -7,6 +7,8 @@ use crate::expressions::put_expr;
 use crate::output::Output;
 use crate::programs::{print, text_of_program};
 use pan_base::{BinOp, Blob, Boxed, Cmp, List, NoMemory, ShOp, Size, Span, Text, single};
+use pan_lexer::lex;
+use pan_parser::parse;
 use pan_tree::{
     BlockOf, CallOf, Exception, Expr, ExprKind, Function, HandlerOf, Param, Program, Shape,
     Spanned, Stmt, StmtKind, Target,
@@ -312,5 +314,47 @@ fn prints_statements(rt: HostRuntime) -> Result<(), Fail> {
     };
     let text = text_of_program(alloc, &program)?;
     assert_eq!(rt; text.as_slice(), STATEMENTS.as_bytes());
+    Ok(())
+}
+
+/// A source with every production of the grammar.
+const WHOLE: &[u8] = b"
+    exception E {1, 2};
+    exception F 1;
+    fun {1, {2, 1}} g(1 a, {1, 1} b) { return <a, b, 1>; }
+    fun h() { raise E <1, -2>; }
+    fun main() {
+        skip;
+        var x = 1 | 2 ^ 3 & (4 + 5 - 6 * -7) << 1 >>> 2 >> 3 #>> 4;
+        var y = g(x, <1, 2>) handle E v { };
+        y = g(x, y.0.1);
+        x = y.0;
+        h();
+        h() handle E v { x = v.0; };
+        st @base, lds {1, 1} @base;
+        stb @base, ldb @base + @biw;
+        if x == 1 { break; } else { continue; }
+        while x <+ 2 { if x != 1 { } else { } }
+        if (x < 1) >= (x >=+ 1) { } else { }
+        x = !ld8 @base;
+        !st64 @base, x;
+        @call(x, 1, @base, @biw);
+        return h();
+    }
+";
+
+/// The canonical text of a source.
+fn reprinted(alloc: Global, source: &[u8]) -> Result<Blob, Fail> {
+    let tokens = lex(alloc, source).ok().ok_or("no tokens")?;
+    let program = parse(alloc, &tokens).ok().ok_or("no program")?;
+    Ok(text_of_program(alloc, &program)?)
+}
+
+/// The text of a program reads back as a program with the same text.
+#[test]
+fn reads_back(rt: HostRuntime) -> Result<(), Fail> {
+    let text = reprinted(rt.alloc(), WHOLE)?;
+    let again = reprinted(rt.alloc(), text.as_slice())?;
+    assert_eq!(rt; text.as_slice(), again.as_slice());
     Ok(())
 }

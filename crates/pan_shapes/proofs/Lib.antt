@@ -1,0 +1,7 @@
+mod ShapeLayers
+mod Answering
+mod ClosingLayers
+mod HeadLemmas
+mod NameLemmas
+mod Uses
+pub mod Scoping

@@ -1,0 +1,19 @@
+use Rattle.std.proofs.Common.{◌≡◌, ℕ, List, Some, None, length, ◌<◌, refl, sym, ap, ◌∙◌, get_or}
+use Rattle.pan_tree.specs.declared.program.Exception.{Exception}
+use Rattle.pan_shapes.specs.Check.{exception_of}
+use Rattle.pan_shapes.proofs.HeadLemmas.{find_named, standing_at, stands_within}
+use Rattle.pan_shapes.proofs.heads.Heads.exception.Goals as goal
+
+pub returns-in-None : goal.returns-in-None
+returns-in-None c =
+    sym (find_named (λ (x : Exception). x.name) c.args.name.now ((c.self.inside.program).now).exceptions c.self.inside.exceptions None c.self.invariant.0 c.in-None.ensures) ∙ ap (exception_of c.args.name.now) c.self.view_is
+
+pub returns-in-Some : goal.returns-in-Some
+returns-in-Some c =
+    let xs : List Exception = ((c.self.inside.program).now).exceptions in
+    let i = c.in-Some.i in
+    let within = stands_within (λ (x : Exception). x.name) c.args.name.now xs c.self.inside.exceptions i c.self.invariant.0 c.in-Some.ensures in
+    let is = c.index-as_slice-i.is ∙ ap (λ (ys : List Exception). get_or ys i c.index-as_slice-i.result) c.as_slice.ensures in
+    sym (standing_at xs i c.index-as_slice-i.result within is)
+    ∙ sym (find_named (λ (x : Exception). x.name) c.args.name.now xs c.self.inside.exceptions (Some i) c.self.invariant.0 c.in-Some.ensures)
+    ∙ ap (exception_of c.args.name.now) c.self.view_is

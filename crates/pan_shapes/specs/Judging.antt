@@ -1,0 +1,21 @@
+-- What is told of expressions that break no rule.
+use Rattle.std.specs.Prelude.{◌≡◌, ◌-◌, ◌^◌, min, List, map, Result}
+use Rattle.pan_shapes.specs.Check as check
+use Rattle.pan_shapes.specs.declared.error.CheckError.{CheckError}
+use Rattle.pan_shapes.specs.declared.judging.Judged.{Judged}
+use Rattle.pan_shapes.specs.Answers.{IsAnswer}
+
+-- the shape, and the weight, or the greatest number of 64 bits where that is less
+abbrev pub Tells : check.Judged → Judged → Type 0
+Tells j k = (k.shape ≡ j.shape) × (k.weight ≡ min j.weight (2 ^ 64 - 1))
+
+-- the same of each
+abbrev pub TellsAll : List check.Judged → List Judged → Type 0
+TellsAll js ks = (map (λ k. k.shape) ks ≡ map (λ j. j.shape) js) × (map (λ k. k.weight) ks ≡ map (λ j. min j.weight (2 ^ 64 - 1)) js)
+
+abbrev pub IsJudged : check.Judged → Result Judged CheckError → Type 0
+IsJudged j result = IsAnswer j.breaks (Tells j) result
+
+-- expressions one after another
+abbrev pub AreJudged : List check.Judged → Result (List Judged) CheckError → Type 0
+AreJudged js result = IsAnswer (check.breaks_of js) (TellsAll js) result
