@@ -1,9 +1,10 @@
 -- How the answers of parts make the answer of the whole.
-use Rattle.std.proofs.Common.{◌≡◌, ℕ, List, [], ◌∷◌, ◌++◌, Ok, Err, Result, refl, sym, ap, subst, ◌∙◌, append_assoc}
+use Rattle.std.proofs.Common.{◌≡◌, ℕ, Bool, true, false, List, [], ◌∷◌, ◌++◌, Err, Result, refl, sym, ap, subst, ◌∙◌, append_assoc}
 use Rattle.std.proofs.lemmas.List.{append-nil}
 use Rattle.std.specs.Result.{IsErrAnd}
 use Rattle.std.proofs.lemmas.Result.{err_from_is_err_and}
-use Rattle.pan_shapes.specs.Check.{Break}
+use Rattle.pan_shapes.specs.declared.rule.Rule.{Rule}
+use Rattle.pan_shapes.specs.Check.{Break, broken}
 use Rattle.pan_shapes.specs.declared.error.CheckError.{CheckError}
 use Rattle.pan_shapes.specs.declared.error.CheckError.TheVariants as error
 use Rattle.pan_shapes.specs.Answers.{IsAnswer}
@@ -32,3 +33,13 @@ first_part bs ms rs = append_assoc bs ms rs
 
 pub second_part : (cs bs ms rs : List Break) → cs ≡ [] → (cs ++ (bs ++ ms)) ++ rs ≡ bs ++ (ms ++ rs)
 second_part cs bs ms rs h = ap (λ b. (b ++ (bs ++ ms)) ++ rs) h ∙ append_assoc bs ms rs
+
+-- of rules that hold, the first
+pub one_holds : (place : ℕ) (rule : Rule) (b : Bool) (rules : List (Rule × Bool)) → broken place ((rule, b) ∷ rules) ≡ [] → b ≡ false
+one_holds place rule true rules e = absurd cc
+one_holds place rule false rules e = refl
+
+-- and those after it
+pub others_hold : (place : ℕ) (rule : Rule) (b : Bool) (rules : List (Rule × Bool)) → broken place ((rule, b) ∷ rules) ≡ [] → broken place rules ≡ []
+others_hold place rule true rules e = absurd cc
+others_hold place rule false rules e = e

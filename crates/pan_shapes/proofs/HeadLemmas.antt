@@ -1,5 +1,5 @@
 -- Heads one after another, and names in a row.
-use Rattle.std.proofs.Common.{◌≡◌, ℕ, ◌+◌, ◌<◌, ◌≤◌, suc, length, get_or, take, drop, Bool, true, false, ◌||◌, not, nat_lt, List, [], ◌∷◌, ◌++◌, map, find, position, slice_get, cond, Option, Some, None, arith, refl, sym, ap, subst, ◌∙◌}
+use Rattle.std.proofs.Common.{◌≡◌, ℕ, ◌+◌, ◌<◌, suc, length, get_or, take, drop, Bool, true, false, ◌||◌, not, nat_lt, List, [], ◌∷◌, ◌++◌, map, find, position, slice_get, cond, Option, Some, None, arith, refl, sym, ap, ◌∙◌}
 use Rattle.std.specs.List.{list_any, position_or_len}
 use Rattle.std.specs.Str.{bytes_eq}
 use Rattle.std.proofs.Math.Seq.{drop-cons}
@@ -13,7 +13,7 @@ use Rattle.pan_shapes.specs.declared.rule.Rule.TheVariants.{TwoNames, ShapeTooWi
 use Rattle.pan_tree.specs.declared.program.Exception.{Exception}
 use Rattle.pan_tree.specs.declared.program.Function.{Function}
 use Rattle.pan_tree.specs.declared.program.Param.{Param}
-use Rattle.pan_shapes.specs.Check.{Break, broken, repeats, exception_heads, function_heads, is_wide, with_name}
+use Rattle.pan_shapes.specs.Check.{broken, repeats, exception_heads, function_heads, is_wide, with_name}
 use Rattle.pan_shapes.proofs.NameLemmas.{flips}
 use Rattle.pan_shapes.specs.HeadRules.{exception_head, function_head, head_is_wide}
 

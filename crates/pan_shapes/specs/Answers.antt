@@ -1,5 +1,5 @@
 -- What the check answers.
-use Rattle.std.specs.Prelude.{◌≡◌, ℕ, List, [], ◌∷◌, Result, Ok, Err}
+use Rattle.std.specs.Prelude.{◌≡◌, List, [], ◌∷◌, Result, Ok, Err}
 use Rattle.pan_shapes.specs.Check.{Break}
 use Rattle.pan_shapes.specs.declared.error.CheckError.{CheckError}
 use Rattle.pan_shapes.specs.declared.error.CheckError.TheVariants as error

@@ -27,11 +27,11 @@ misshapen (Some f) ss = nat_eq (length f.params) (length ss) && differing f.para
 abbrev pub call_breaks : ℕ → Target → Option Function → List Shape → Bool → Scopes → List Break
 call_breaks place into f ss no_exception v =
     broken place
-        ((TwoNames, is_new_twice into v) ∷ (UnknownName, is_old_unknown into v) ∷ (UnknownFunction, no_value f)
-        ∷ (UnknownException, no_exception) ∷ (WrongShape, misshapen f ss || is_old_other into f v) ∷ (WrongCount, counted f ss) ∷ [])
+    ((TwoNames, is_new_twice into v) ∷ (UnknownName, is_old_unknown into v) ∷ (UnknownFunction, no_value f)
+    ∷ (UnknownException, no_exception) ∷ (WrongShape, misshapen f ss || is_old_other into f v) ∷ (WrongCount, counted f ss) ∷ [])
 
 -- the same of a call whose result a function of this result returns
 abbrev pub tail_breaks : ℕ → Option Function → List Shape → Shape → List Break
 tail_breaks place f ss result =
     broken place
-        ((UnknownFunction, no_value f) ∷ (WrongShape, misshapen f ss || is_other (option_map (λ (g : Function). g.result) f) result) ∷ (WrongCount, counted f ss) ∷ [])
+    ((UnknownFunction, no_value f) ∷ (WrongShape, misshapen f ss || is_other (option_map (λ (g : Function). g.result) f) result) ∷ (WrongCount, counted f ss) ∷ [])

@@ -299,17 +299,17 @@ do_layer (stmt.Call call) c place s =
     let f = function_of call.function c.program in
     let result = result_of f in
     and_block
-        (plain place (target_words call.into result s.scopes + words_of result) args
-            ((TwoNames, is_new_twice call.into s.scopes) ∷ (UnknownName, is_old_unknown call.into s.scopes) ∷ (UnknownFunction, no_value f)
-            ∷ (UnknownException, handler_unknown call.handler c.program) ∷ (WrongShape, wrong_shape f args || is_old_other call.into f s.scopes) ∷ (WrongCount, wrong_count f args) ∷ [])
-            (record s { scopes = after_target call.into result s.scopes }))
-        (handle call.handler c)
+    (plain place (target_words call.into result s.scopes + words_of result) args
+    ((TwoNames, is_new_twice call.into s.scopes) ∷ (UnknownName, is_old_unknown call.into s.scopes) ∷ (UnknownFunction, no_value f)
+    ∷ (UnknownException, handler_unknown call.handler c.program) ∷ (WrongShape, wrong_shape f args || is_old_other call.into f s.scopes) ∷ (WrongCount, wrong_count f args) ∷ [])
+    (record s { scopes = after_target call.into result s.scopes }))
+    (handle call.handler c)
 do_layer (stmt.Return e) c place s = let j = judged e s.scopes in plain place 0 (j ∷ []) ((WrongShape, not (same c.result j.shape)) ∷ []) s
 do_layer (stmt.TailCall name xs) c place s =
     let args = map (λ x. judged x s.scopes) xs in
     let f = function_of name c.program in
     plain place (words_of (result_of f)) args
-        ((UnknownFunction, no_value f) ∷ (WrongShape, wrong_shape f args || is_other (option_map (λ (g : Function). g.result) f) c.result) ∷ (WrongCount, wrong_count f args) ∷ []) s
+    ((UnknownFunction, no_value f) ∷ (WrongShape, wrong_shape f args || is_other (option_map (λ (g : Function). g.result) f) c.result) ∷ (WrongCount, wrong_count f args) ∷ []) s
 do_layer (stmt.Raise i e) c place s =
     let j = judged e s.scopes in
     let known = exception_of i c.program in
@@ -408,8 +408,8 @@ abbrev pub function_heads : List Function → List Function → List Break
 function_heads before [] = []
 function_heads before (f ∷ fs) =
     broken f.span.start
-        ((TwoNames, list_any (λ (g : Function). bytes_eq g.name f.name) before || repeats (map (λ (p : Param). p.name) f.params))
-        ∷ (ShapeTooWide, is_wide f.result || nat_lt max_words (parameter_words f.params)) ∷ (TooMany, not (nat_lt (length before) 4096)) ∷ [])
+    ((TwoNames, list_any (λ (g : Function). bytes_eq g.name f.name) before || repeats (map (λ (p : Param). p.name) f.params))
+    ∷ (ShapeTooWide, is_wide f.result || nat_lt max_words (parameter_words f.params)) ∷ (TooMany, not (nat_lt (length before) 4096)) ∷ [])
     ++ function_heads (before ++ f ∷ []) fs
 
 -- the function `main`

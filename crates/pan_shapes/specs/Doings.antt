@@ -1,8 +1,10 @@
 -- What checking statements answers.
-use Rattle.std.specs.Prelude.{◌≡◌, ℕ, ◌+◌, ◌-◌, ◌^◌, min, ◌||◌, Bool, List, [], ◌∷◌, map, drop, Result}
+use Rattle.std.specs.Prelude.{◌≡◌, ℕ, ◌+◌, ◌-◌, ◌^◌, min, ◌||◌, Bool, List, [], ◌∷◌, map, Option, Some, None, Result}
 use Rattle.pan_shapes.specs.declared.rule.Rule.TheVariants.{NotWord, TwoNames, UnknownName, UnknownFunction, UnknownException, WrongShape, WrongCount}
 use Rattle.pan_tree.specs.declared.spanned.Spanned.{Spanned}
 use Rattle.pan_tree.specs.declared.syntax.BlockOf.{BlockOf}
+use Rattle.pan_tree.specs.declared.syntax.HandlerOf.{HandlerOf}
+use Rattle.pan_tree.specs.declared.syntax.CallOf.{CallOf}
 use Rattle.pan_tree.specs.declared.syntax.ExprKind.{ExprKind}
 use Rattle.pan_tree.specs.declared.syntax.StmtKind.{StmtKind, StmtKind-F}
 use Rattle.pan_tree.specs.declared.syntax.Target.{Target}
@@ -31,6 +33,13 @@ Does y around place before after result = IsDone (do_layer y (context around) pl
 abbrev pub doings : BlockOf (Spanned StmtKind) → BlockOf (Spanned Doing)
 doings b = record { stmts = map doing b.stmts }
 
+abbrev pub handler_doings : Option (HandlerOf (Spanned StmtKind)) → Option (HandlerOf (Spanned Doing))
+handler_doings None = None
+handler_doings (Some h) = Some (record { exception = h.exception; name = h.name; body = doings h.body })
+
+abbrev pub call_doings : CallOf (Spanned StmtKind) → CallOf (Spanned Doing)
+call_doings k = record { into = k.into; function = k.function; args = k.args; handler = handler_doings k.handler }
+
 -- the word that `if` and `while` ask for, before their blocks
 abbrev pub condition_alone : Spanned ExprKind → ℕ → State → Done
 condition_alone e place s = let parts = judged e s.scopes ∷ [] in plain place 0 parts ((NotWord, no_words parts) ∷ []) s
@@ -42,6 +51,6 @@ call_alone into name xs no_exception c place s =
     let f = function_of name c.program in
     let result = result_of f in
     plain place (target_words into result s.scopes + words_of result) args
-        ((TwoNames, is_new_twice into s.scopes) ∷ (UnknownName, is_old_unknown into s.scopes) ∷ (UnknownFunction, no_value f)
-        ∷ (UnknownException, no_exception) ∷ (WrongShape, wrong_shape f args || is_old_other into f s.scopes) ∷ (WrongCount, wrong_count f args) ∷ [])
-        (record s { scopes = after_target into result s.scopes })
+    ((TwoNames, is_new_twice into s.scopes) ∷ (UnknownName, is_old_unknown into s.scopes) ∷ (UnknownFunction, no_value f)
+    ∷ (UnknownException, no_exception) ∷ (WrongShape, wrong_shape f args || is_old_other into f s.scopes) ∷ (WrongCount, wrong_count f args) ∷ [])
+    (record s { scopes = after_target into result s.scopes })

@@ -13,7 +13,7 @@ use Rattle.pan_shapes.specs.Check.{exception_heads, function_heads, Break, broke
 abbrev pub exception_head : List (List ℕ) → Exception → List Break
 exception_head names x =
     broken x.span.start
-        ((TwoNames, list_any (λ y. bytes_eq y x.name) names) ∷ (ShapeTooWide, is_wide x.shape) ∷ (TooMany, not (nat_lt (length names) 1024)) ∷ [])
+    ((TwoNames, list_any (λ y. bytes_eq y x.name) names) ∷ (ShapeTooWide, is_wide x.shape) ∷ (TooMany, not (nat_lt (length names) 1024)) ∷ [])
 
 abbrev pub head_repeats : List (List ℕ) → Function → Bool
 head_repeats names f = list_any (λ y. bytes_eq y f.name) names || repeats (map (λ (p : Param). p.name) f.params)

@@ -2,7 +2,11 @@ pub mod Check
 pub mod Shapes
 pub mod Answers
 pub mod Arguments
+pub mod Directions
 pub mod Doings
+pub mod Fields
 pub mod HeadRules
 pub mod Judging
+pub mod Kept
 pub mod Pairs
+pub mod Weights

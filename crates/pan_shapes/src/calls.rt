@@ -1,6 +1,6 @@
 //! Calls.
 
-ghost use Rattle.std.specs.Prelude.{◌≡◌, ◌+◌, ◌-◌, ◌^◌, min, ◌&&◌, not, nat_eq, nat_lt, length, map, sum, option_map, IfOk, OnOk};
+ghost use Rattle.std.specs.Prelude.{◌≡◌, ◌+◌, ◌-◌, ◌^◌, min, ◌&&◌, not, nat_eq, nat_lt, length, map, sum, option_map, false, IfOk, OnOk};
 ghost use Rattle.std.specs.Option.{option_copied};
 ghost use Rattle.pan_tree.specs.declared.syntax.StmtKind.TheOpen as stmt;
 ghost use Rattle.pan_shapes.specs.Shapes.{words_of};
@@ -13,12 +13,12 @@ ghost use Rattle.pan_shapes.specs.Arguments.{differing, counted, misshapen, call
 use crate::error::CheckError;
 use crate::judging::{Judged, judge_all};
 use crate::refusals::refuse;
+use crate::rule::Rule;
 use crate::scopes::Scopes;
+use crate::shapes::{copy_shape, same, words};
 use crate::statements::{STMT_WEIGHT, is_other, words_of_known};
 use crate::walking::{Around, Walk};
 use pan_base::{NoMemory, Text};
-use crate::rule::Rule;
-use crate::shapes::{copy_shape, same, words};
 use pan_tree::{Call, Expr, Function, Param, Shape, Target};
 use std::alloc::Global;
 
@@ -124,7 +124,7 @@ fn words_of_target(into: &Target, shape: Option<&Shape>, scopes: &Scopes<'_>) ->
 }
 
 /// A copy of the shape, where an unknown one counts as a word.
-fn copy_of_known(alloc: Global, known: Option<&Shape>) -> Result<Shape, NoMemory>
+pub fn copy_of_known(alloc: Global, known: Option<&Shape>) -> Result<Shape, NoMemory>
     ensures { IfOk result (λ s. s ≡ check.or_word (option_copied known.entry)) }
 {
     match known {
@@ -195,7 +195,14 @@ pub fn check_call_alone<'p>(
     let args = judge_all(around.alloc, call.args.as_slice(), &walk.scopes)?;
     let args = args.as_slice();
     let function = around.heads.function(call.function.as_bytes());
-    refuse_call(place, &call.into, function, args, no_exception, &walk.scopes)?;
+    refuse_call(
+        place,
+        &call.into,
+        function,
+        args,
+        no_exception,
+        &walk.scopes,
+    )?;
     let shape = shape_of_result(function);
     let weight = STMT_WEIGHT
         .saturating_add(weight_of_all(args))
@@ -215,8 +222,7 @@ fn refuse_tail_call(
     ensures { IsAnswer (tail_breaks place (option_copied function.entry) (map (λ j. j.shape) args.now) result_shape.now) (λ _. Unit {0}) result }
 {
     let no_function = function.is_none();
-    let is_wrong =
-        wrong_shape(function, args) || is_other(shape_of_result(function), result_shape);
+    let is_wrong = wrong_shape(function, args) || is_other(shape_of_result(function), result_shape);
     let is_miscounted = wrong_count(function, args);
     refuse(
         place,
@@ -242,7 +248,9 @@ pub fn check_tail_call(
     let args = args.as_slice();
     let function = around.heads.function(name.as_bytes());
     refuse_tail_call(place, function, args, around.result)?;
-    Ok(STMT_WEIGHT
-        .saturating_add(weight_of_all(args))
-        .saturating_add(words_of_known(shape_of_result(function))))
+    Ok(
+        STMT_WEIGHT
+            .saturating_add(weight_of_all(args))
+            .saturating_add(words_of_known(shape_of_result(function))),
+    )
 }

@@ -1,7 +1,7 @@
 //! Why a program is refused.
 
-use pan_base::NoMemory;
 use crate::rule::Rule;
+use pan_base::NoMemory;
 use std::alloc::AllocError;
 
 /// Why a program is refused.

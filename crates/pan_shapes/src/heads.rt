@@ -1,6 +1,6 @@
 //! Exceptions and functions, by name.
 
-ghost use Rattle.std.specs.Prelude.{◌≡◌, ◌<◌, ◌-◌, ◌^◌, [], map, min, None, length, slice_get, IfOk, MatchOption};
+ghost use Rattle.std.specs.Prelude.{◌≡◌, ◌<◌, ◌-◌, ◌^◌, [], map, min, None, Some, length, slice_get, IfOk, MatchOption};
 ghost use Rattle.std.specs.Option.{option_copied};
 ghost use Rattle.pan_shapes.specs.Check as check;
 ghost use Rattle.pan_shapes.specs.Answers.{IsAnswer};
@@ -9,9 +9,9 @@ ghost use Rattle.pan_shapes.specs.HeadRules.{exception_head, head_repeats, head_
 use crate::error::CheckError;
 use crate::names::Names;
 use crate::refusals::refuse;
-use pan_base::NoMemory;
 use crate::rule::Rule;
 use crate::shapes::words;
+use pan_base::NoMemory;
 use pan_tree::{Exception, Function, Param, Program, Shape};
 use std::alloc::Global;
 use std::marker::Model;
@@ -126,10 +126,7 @@ fn refuse_head(alloc: Global, function: &Function, before: &Names<'_>) -> Result
 }
 
 /// The names of the functions, whose heads break no rule.
-pub fn function_names<'p>(
-    alloc: Global,
-    functions: &'p [Function],
-) -> Result<Names<'p>, CheckError>
+pub fn function_names<'p>(alloc: Global, functions: &'p [Function]) -> Result<Names<'p>, CheckError>
     ensures { IsAnswer (check.function_heads [] functions.now) (λ names. names ≡ map (λ f. f.name) functions.now) result }
 {
     let mut names = Names::new(alloc);
@@ -197,6 +194,14 @@ impl<'p> Heads<'p> {
         ensures { MatchOption result (check.function_of name.now self.now ≡ None) (λ i. (check.function_of name.now self.now ≡ slice_get self.now.functions i) × (i < length self.now.functions)) }
     {
         self.functions.position(name)
+    }
+
+    /// The function at this index.
+    pub fn at(&self, index: usize) -> &'p Function
+        requires { index < length self.now.functions }
+        ensures { Some result.now ≡ slice_get self.now.functions index }
+    {
+        &self.program.functions.as_slice()[index]
     }
 
     /// The exception of this name.

@@ -1,9 +1,14 @@
 //! Checks programs: shapes, scopes and weights.
 #![tactic(auto)]
 
+mod blocks;
+mod bodies;
 mod calls;
+mod checked;
+mod checking;
 mod closing;
 mod error;
+mod fields;
 mod heads;
 mod judging;
 mod names;
@@ -13,7 +18,10 @@ mod scopes;
 mod shapes;
 mod statements;
 mod walking;
+mod weights;
 
+pub use checked::Checked;
+pub use checking::check;
 pub use error::CheckError;
 pub use judging::Judged;
 pub use rule::Rule;

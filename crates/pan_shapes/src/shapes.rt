@@ -4,8 +4,8 @@ ghost use Rattle.std.specs.Prelude.{◌≡◌, ◌-◌, ◌^◌, ◌&&◌, nat_e
 ghost use Rattle.std.specs.List.{list_all};
 ghost use Rattle.pan_shapes.specs.Shapes.{words_of, is_word, holds_each, same};
 
-use pan_tree::Shape;
 use pan_base::{List, NoMemory};
+use pan_tree::Shape;
 use std::alloc::Global;
 
 /// The number of words of a value of the shape, or 2^64 - 1 where that is less.

@@ -13,11 +13,11 @@ use crate::error::CheckError;
 use crate::heads::Heads;
 use crate::judging::judge;
 use crate::refusals::refuse;
+use crate::rule::Rule;
 use crate::scopes::Scopes;
+use crate::shapes::{is_word, same, words};
 use crate::walking::{Around, Walk};
 use pan_base::{Size, Text};
-use crate::rule::Rule;
-use crate::shapes::{is_word, same, words};
 use pan_tree::{Expr, Shape};
 use std::alloc::Global;
 
@@ -101,9 +101,11 @@ pub fn check_assign(
             (Rule::WrongShape, is_other),
         ],
     )?;
-    Ok(STMT_WEIGHT
-        .saturating_add(value.weight)
-        .saturating_add(words_of_known(known)))
+    Ok(
+        STMT_WEIGHT
+            .saturating_add(value.weight)
+            .saturating_add(words_of_known(known)),
+    )
 }
 
 /// Writes the words of a value to local memory.
@@ -120,9 +122,11 @@ pub fn check_store_words(
     let value = judge(around.alloc, value, &walk.scopes)?;
     let is_no_word = !is_word(&address.shape);
     refuse(place, &[(Rule::NotWord, is_no_word)])?;
-    Ok(STMT_WEIGHT
-        .saturating_add(address.weight)
-        .saturating_add(value.weight))
+    Ok(
+        STMT_WEIGHT
+            .saturating_add(address.weight)
+            .saturating_add(value.weight),
+    )
 }
 
 /// What words are told of together.
@@ -309,8 +313,9 @@ pub fn check_shared_load(
             (Rule::NotWord, is_no_word),
         ],
     )?;
-    Ok(STMT_WEIGHT
-        .saturating_add(address.weight)
-        .saturating_add(words_of_known(known)))
+    Ok(
+        STMT_WEIGHT
+            .saturating_add(address.weight)
+            .saturating_add(words_of_known(known)),
+    )
 }
-

@@ -1,8 +1,8 @@
-use Rattle.std.proofs.Common.{◌≡◌, ◌++◌, List, [], false, sym, ap, ◌∙◌, drop, take, ◌+◌}
+use Rattle.std.proofs.Common.{◌≡◌, ◌++◌, [], ap, ◌∙◌, drop, take, ◌+◌}
 use Rattle.std.specs.List.{list_any}
 use Rattle.std.specs.Str.{bytes_eq}
 use Rattle.pan_tree.specs.declared.program.Exception.{Exception}
-use Rattle.pan_shapes.specs.Check.{Break, exception_heads, with_name}
+use Rattle.pan_shapes.specs.Check.{exception_heads, with_name}
 use Rattle.pan_shapes.specs.HeadRules.{exception_head}
 use Rattle.pan_shapes.proofs.Answering.{refused}
 use Rattle.pan_shapes.proofs.HeadLemmas.{exception_step, names_more, first_holds}
@@ -14,7 +14,7 @@ returns-in_err-refuse_exception c =
     let i = c.loop-exception.exception-index in
     let step = exception_step xs i c.exception-item.result c.loop-exception.names c.loop-exception-test.true c.exception-item.is c.loop-exception.invariant.names in
     refused _ c.from_residual.result (exception_head c.loop-exception.names c.exception-item.result) (exception_heads (take (i + 1) xs) (drop (i + 1) xs)) c.in_err-refuse_exception.field-0.0 (c.loop-exception.invariant.left ∙ step)
-        c.from_residual.ensures.1 c.in_err-refuse_exception.ensures
+    c.from_residual.ensures.1 c.in_err-refuse_exception.ensures
 
 pub loop-exception-preserved : goal.loop-exception-preserved
 loop-exception-preserved c =

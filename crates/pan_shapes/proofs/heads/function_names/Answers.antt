@@ -1,8 +1,8 @@
-use Rattle.std.proofs.Common.{◌≡◌, ◌++◌, List, [], false, sym, ap, ◌∙◌, drop, take, ◌+◌}
+use Rattle.std.proofs.Common.{◌≡◌, ◌++◌, [], ap, ◌∙◌, drop, take, ◌+◌}
 use Rattle.std.specs.List.{list_any}
 use Rattle.std.specs.Str.{bytes_eq}
 use Rattle.pan_tree.specs.declared.program.Function.{Function}
-use Rattle.pan_shapes.specs.Check.{Break, function_heads, with_name}
+use Rattle.pan_shapes.specs.Check.{function_heads, with_name}
 use Rattle.pan_shapes.specs.HeadRules.{function_head, head_repeats}
 use Rattle.pan_shapes.proofs.Answering.{refused}
 use Rattle.pan_shapes.proofs.HeadLemmas.{function_step, names_more, first_holds, known_holds}
@@ -14,7 +14,7 @@ returns-in_err-refuse_head c =
     let i = c.loop-function.function-index in
     let step = function_step xs i c.function-item.result c.loop-function.names c.loop-function-test.true c.function-item.is c.loop-function.invariant.names in
     refused _ c.from_residual.result (function_head c.loop-function.names c.function-item.result) (function_heads (take (i + 1) xs) (drop (i + 1) xs)) c.in_err-refuse_head.field-0.0 (c.loop-function.invariant.left ∙ step)
-        c.from_residual.ensures.1 c.in_err-refuse_head.ensures
+    c.from_residual.ensures.1 c.in_err-refuse_head.ensures
 
 pub loop-function-preserved : goal.loop-function-preserved
 loop-function-preserved c =

@@ -1,4 +1,4 @@
-use Rattle.std.proofs.Common.{◌≡◌, Bool, true, false, sym, ap, ◌∙◌}
+use Rattle.std.proofs.Common.{◌≡◌, false, sym, ap, ◌∙◌}
 use Rattle.std.specs.List.{list_any}
 use Rattle.std.specs.Str.{bytes_eq}
 use Rattle.pan_tree.specs.declared.program.Param.{Param}
@@ -9,7 +9,7 @@ use Rattle.pan_shapes.proofs.heads.has_twins.Goals as goal
 pub returns-then-contains : goal.returns-then-contains
 returns-then-contains c =
     twin_found c.args.params.now c.loop-param.param-index c.param-item.result c.loop-param.names c.loop-param-test.true c.param-item.is c.loop-param.invariant.names
-        (ap (λ q. list_any (λ y. bytes_eq y q) c.loop-param.names) (sym c.as_bytes-name.ensures) ∙ sym c.contains.ensures ∙ c.if-contains.true)
+    (ap (λ q. list_any (λ y. bytes_eq y q) c.loop-param.names) (sym c.as_bytes-name.ensures) ∙ sym c.contains.ensures ∙ c.if-contains.true)
 
 pub loop-param-preserved : goal.loop-param-preserved
 loop-param-preserved c =

@@ -1,4 +1,4 @@
-use Rattle.std.proofs.Common.{◌≡◌, ◌-◌, ◌^◌, min, arith, sym, ap, ◌∙◌}
+use Rattle.std.proofs.Common.{◌≡◌, arith, ap, ◌∙◌}
 use Rattle.std.specs.Option.{option_copied}
 use Rattle.pan_shapes.specs.Check.{or_word}
 use Rattle.pan_shapes.specs.Shapes.{words_of}

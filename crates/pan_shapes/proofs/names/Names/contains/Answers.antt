@@ -1,7 +1,7 @@
-use Rattle.std.proofs.Common.{refl, sym, ap, ◌∙◌}
+use Rattle.std.proofs.Common.{ap, ◌∙◌}
 use Rattle.std.specs.List.{list_any}
 use Rattle.std.specs.Str.{bytes_eq}
-use Rattle.pan_shapes.proofs.NameLemmas.{now_of, any_now}
+use Rattle.pan_shapes.proofs.NameLemmas.{any_now}
 use Rattle.pan_shapes.proofs.names.Names.contains.Goals as goal
 
 pub returns : goal.returns

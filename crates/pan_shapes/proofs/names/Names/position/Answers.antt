@@ -1,6 +1,6 @@
-use Rattle.std.proofs.Common.{refl, sym, ap, ◌∙◌, position}
+use Rattle.std.proofs.Common.{ap, ◌∙◌, position}
 use Rattle.std.specs.Str.{bytes_eq}
-use Rattle.pan_shapes.proofs.NameLemmas.{now_of, position_now}
+use Rattle.pan_shapes.proofs.NameLemmas.{position_now}
 use Rattle.pan_shapes.proofs.names.Names.position.Goals as goal
 
 pub returns : goal.returns

@@ -1,0 +1,234 @@
+use Rattle.std.proofs.Common.{◌+◌, ◌-◌, ◌^◌, min, ◌||◌, [], ◌∷◌, ◌++◌, length, map, Ok, refl, sym, ap, subst, ◌∙◌}
+use Rattle.std.proofs.lemmas.List.{append-nil, drop_all}
+use Rattle.pan_base.specs.declared.operators.BinOp.{BinOp}
+use Rattle.pan_tree.specs.declared.spanned.Spanned.{Spanned}
+use Rattle.pan_tree.specs.declared.syntax.ExprKind.{ExprKind}
+use Rattle.pan_shapes.specs.Check.{judge_kind, judged, breaks_of, weights, no_words}
+use Rattle.pan_shapes.specs.Judging.{IsJudged, TellsParts, TellsTerms}
+use Rattle.pan_shapes.proofs.Combining.{handed_on, item_refused, weight_at_end}
+use Rattle.pan_shapes.proofs.ExprLayers.{judge_number, judge_base, judge_biw, struct_is, field_is, load_is, load_byte_is, neg_is, compare_is, chain_is, shift_is}
+use Rattle.pan_shapes.proofs.Judgements.{or_false, parts_refused, first_refused, others_refused, second_refused, word_passes, struct_passes, field_passes, load_passes, word_from_one, word_from_both, chain_passes, shift_passes}
+use Rattle.pan_shapes.proofs.judging.+judge.Goals as goal
+
+pub judge-returns-in-Number : goal.judge-returns-in-Number
+judge-returns-in-Number t c =
+    let place = c.args.expr.now.span.start in
+    let v = c.args.scopes.now in
+    let is = ap (λ k. judge_kind k place v) c.in-Number.is ∙ judge_number place v c.in-Number.field-0 in
+    let made = c.made_of.ensures in
+    subst (λ j. IsJudged j (Ok c.made_of.result)) (sym is) (word_passes place v (Ok c.made_of.result) c.made_of.result (made.shaped, made.weighs))
+
+pub judge-returns-in-Base : goal.judge-returns-in-Base
+judge-returns-in-Base t c =
+    let place = c.args.expr.now.span.start in
+    let v = c.args.scopes.now in
+    let is = ap (λ k. judge_kind k place v) c.in-Base.is ∙ judge_base place v in
+    let made = c.made_of-in-Base.ensures in
+    subst (λ j. IsJudged j (Ok c.made_of-in-Base.result)) (sym is) (word_passes place v (Ok c.made_of-in-Base.result) c.made_of-in-Base.result (made.shaped, made.weighs))
+
+pub judge-returns-in-Biw : goal.judge-returns-in-Biw
+judge-returns-in-Biw t c =
+    let place = c.args.expr.now.span.start in
+    let v = c.args.scopes.now in
+    let is = ap (λ k. judge_kind k place v) c.in-Biw.is ∙ judge_biw place v in
+    let made = c.made_of-in-Biw.ensures in
+    subst (λ j. IsJudged j (Ok c.made_of-in-Biw.result)) (sym is) (word_passes place v (Ok c.made_of-in-Biw.result) c.made_of-in-Biw.result (made.shaped, made.weighs))
+
+pub judge-returns-in_err-parts-in-Struct : goal.judge-returns-in_err-parts-in-Struct
+judge-returns-in_err-parts-in-Struct t c =
+    let place = c.args.expr.now.span.start in
+    let v = c.args.scopes.now in
+    let kind = c.args.expr.now.kind in
+    let is = struct_is place v kind c.in-Struct.parts c.as_slice.result.now c.in-Struct.is c.as_slice.ensures in
+    parts_refused (judged c.args.expr.now v) (map (λ x. judged x v) c.as_slice.result.now) _ c.in_err-parts-in-Struct.field-0.0 c.from_residual.result (ap (λ j. j.breaks) is) c.from_residual.ensures.1 c.in_err-parts-in-Struct.ensures
+
+pub judge-returns-in_ok-parts-in-Struct : goal.judge-returns-in_ok-parts-in-Struct
+judge-returns-in_ok-parts-in-Struct t c =
+    let place = c.args.expr.now.span.start in
+    let v = c.args.scopes.now in
+    let kind = c.args.expr.now.kind in
+    let is = struct_is place v kind c.in-Struct.parts c.as_slice.result.now c.in-Struct.is c.as_slice.ensures in
+    subst (λ j. IsJudged j c.struct_of.result) (sym is)
+    (struct_passes place v c.struct_of.result _ c.in_ok-parts-in-Struct.parts c.in_ok-parts-in-Struct.ensures c.struct_of.ensures)
+
+pub judge-returns-in_err-of-in-Field : goal.judge-returns-in_err-of-in-Field
+judge-returns-in_err-of-in-Field t c =
+    let place = c.args.expr.now.span.start in
+    let v = c.args.scopes.now in
+    let kind = c.args.expr.now.kind in
+    let is = field_is place v kind c.in-Field.of c.get.result.now c.in-Field.path c.in-Field.path c.in-Field.is c.get.ensures refl in
+    first_refused (judged c.args.expr.now v) (judged c.get.result.now v) [] _ c.in_err-of-in-Field.field-0.0 c.from_residual-in_err-of-in-Field.result (ap (λ j. j.breaks) is) c.from_residual-in_err-of-in-Field.ensures.1 c.in_err-of-in-Field.ensures
+
+pub judge-returns-in_ok-of-in-Field : goal.judge-returns-in_ok-of-in-Field
+judge-returns-in_ok-of-in-Field t c =
+    let place = c.args.expr.now.span.start in
+    let v = c.args.scopes.now in
+    let kind = c.args.expr.now.kind in
+    let is = field_is place v kind c.in-Field.of c.get.result.now c.in-Field.path c.as_slice-in-Field.result.now c.in-Field.is c.get.ensures c.as_slice-in-Field.ensures in
+    subst (λ j. IsJudged j c.field_of.result) (sym is)
+    (field_passes place v c.field_of.result (judged c.get.result.now v) c.in_ok-of-in-Field.of c.as_slice-in-Field.result.now c.in_ok-of-in-Field.ensures c.field_of.ensures)
+
+pub judge-returns-in_err-address-in-Load : goal.judge-returns-in_err-address-in-Load
+judge-returns-in_err-address-in-Load t c =
+    let place = c.args.expr.now.span.start in
+    let v = c.args.scopes.now in
+    let kind = c.args.expr.now.kind in
+    let is = load_is place v kind c.in-Load.shape c.in-Load.address c.get-in-Load.result.now c.in-Load.is c.get-in-Load.ensures in
+    first_refused (judged c.args.expr.now v) (judged c.get-in-Load.result.now v) [] _ c.in_err-address-in-Load.field-0.0 c.from_residual-in_err-address-in-Load.result (ap (λ j. j.breaks) is) c.from_residual-in_err-address-in-Load.ensures.1 c.in_err-address-in-Load.ensures
+
+pub judge-returns-in_ok-address-in-Load : goal.judge-returns-in_ok-address-in-Load
+judge-returns-in_ok-address-in-Load t c =
+    let place = c.args.expr.now.span.start in
+    let v = c.args.scopes.now in
+    let kind = c.args.expr.now.kind in
+    let is = load_is place v kind c.in-Load.shape c.in-Load.address c.get-in-Load.result.now c.in-Load.is c.get-in-Load.ensures in
+    subst (λ j. IsJudged j c.loaded_of.result) (sym is)
+    (load_passes place v c.loaded_of.result c.in-Load.shape (judged c.get-in-Load.result.now v) c.in_ok-address-in-Load.address c.in_ok-address-in-Load.ensures c.loaded_of.ensures)
+
+pub judge-returns-in_err-address-in-LoadByte : goal.judge-returns-in_err-address-in-LoadByte
+judge-returns-in_err-address-in-LoadByte t c =
+    let place = c.args.expr.now.span.start in
+    let v = c.args.scopes.now in
+    let kind = c.args.expr.now.kind in
+    let is = load_byte_is place v kind c.in-LoadByte.address c.get-in-LoadByte.result.now c.in-LoadByte.is c.get-in-LoadByte.ensures in
+    first_refused (judged c.args.expr.now v) (judged c.get-in-LoadByte.result.now v) [] _ c.in_err-address-in-LoadByte.field-0.0 c.from_residual-in_err-address-in-LoadByte.result (ap (λ j. j.breaks) is) c.from_residual-in_err-address-in-LoadByte.ensures.1 c.in_err-address-in-LoadByte.ensures
+
+pub judge-returns-in_ok-address-in-LoadByte : goal.judge-returns-in_ok-address-in-LoadByte
+judge-returns-in_ok-address-in-LoadByte t c =
+    let place = c.args.expr.now.span.start in
+    let v = c.args.scopes.now in
+    let kind = c.args.expr.now.kind in
+    let is = load_byte_is place v kind c.in-LoadByte.address c.get-in-LoadByte.result.now c.in-LoadByte.is c.get-in-LoadByte.ensures in
+    subst (λ j. IsJudged j c.word_of.result) (sym is)
+    (word_from_one place v c.word_of.result (judged c.get-in-LoadByte.result.now v) c.in_ok-address-in-LoadByte.address c.in_ok-address-in-LoadByte.ensures c.word_of.ensures)
+
+pub judge-returns-in_err-of-in-Neg : goal.judge-returns-in_err-of-in-Neg
+judge-returns-in_err-of-in-Neg t c =
+    let place = c.args.expr.now.span.start in
+    let v = c.args.scopes.now in
+    let kind = c.args.expr.now.kind in
+    let is = neg_is place v kind c.in-Neg.of c.get-in-Neg.result.now c.in-Neg.is c.get-in-Neg.ensures in
+    first_refused (judged c.args.expr.now v) (judged c.get-in-Neg.result.now v) [] _ c.in_err-of-in-Neg.field-0.0 c.from_residual-in_err-of-in-Neg.result (ap (λ j. j.breaks) is) c.from_residual-in_err-of-in-Neg.ensures.1 c.in_err-of-in-Neg.ensures
+
+pub judge-returns-in_ok-of-in-Neg : goal.judge-returns-in_ok-of-in-Neg
+judge-returns-in_ok-of-in-Neg t c =
+    let place = c.args.expr.now.span.start in
+    let v = c.args.scopes.now in
+    let kind = c.args.expr.now.kind in
+    let is = neg_is place v kind c.in-Neg.of c.get-in-Neg.result.now c.in-Neg.is c.get-in-Neg.ensures in
+    subst (λ j. IsJudged j c.word_of-in-Neg.result) (sym is)
+    (word_from_one place v c.word_of-in-Neg.result (judged c.get-in-Neg.result.now v) c.in_ok-of-in-Neg.of c.in_ok-of-in-Neg.ensures c.word_of-in-Neg.ensures)
+
+pub judge-returns-in_err-first-in-Chain : goal.judge-returns-in_err-first-in-Chain
+judge-returns-in_err-first-in-Chain t c =
+    let place = c.args.expr.now.span.start in
+    let v = c.args.scopes.now in
+    let kind = c.args.expr.now.kind in
+    let is = chain_is place v kind c.in-Chain.first c.get-in-Chain.result.now c.in-Chain.rest c.in-Chain.rest (length c.in-Chain.rest) c.in-Chain.is c.get-in-Chain.ensures refl refl in
+    first_refused (judged c.args.expr.now v) (judged c.get-in-Chain.result.now v) (map (λ y. judged y.1 v) c.in-Chain.rest) _ c.in_err-first-in-Chain.field-0.0 c.from_residual-in_err-first-in-Chain.result (ap (λ j. j.breaks) is) c.from_residual-in_err-first-in-Chain.ensures.1 c.in_err-first-in-Chain.ensures
+
+pub judge-returns-in_err-terms-in-Chain : goal.judge-returns-in_err-terms-in-Chain
+judge-returns-in_err-terms-in-Chain t c =
+    let place = c.args.expr.now.span.start in
+    let v = c.args.scopes.now in
+    let kind = c.args.expr.now.kind in
+    let is = chain_is place v kind c.in-Chain.first c.get-in-Chain.result.now c.in-Chain.rest c.as_slice-in-Chain.result.now (length c.in-Chain.rest) c.in-Chain.is c.get-in-Chain.ensures c.as_slice-in-Chain.ensures refl in
+    others_refused (judged c.args.expr.now v) (judged c.get-in-Chain.result.now v) (map (λ y. judged y.1 v) c.as_slice-in-Chain.result.now) _ c.in_err-terms-in-Chain.field-0.0 c.from_residual-in_err-terms-in-Chain.result (ap (λ j. j.breaks) is)
+    c.in_ok-first-in-Chain.ensures.0 c.from_residual-in_err-terms-in-Chain.ensures.1 c.in_err-terms-in-Chain.ensures
+
+pub judge-returns-in_ok-terms-in-Chain : goal.judge-returns-in_ok-terms-in-Chain
+judge-returns-in_ok-terms-in-Chain t c =
+    let place = c.args.expr.now.span.start in
+    let v = c.args.scopes.now in
+    let kind = c.args.expr.now.kind in
+    let is = chain_is place v kind c.in-Chain.first c.get-in-Chain.result.now c.in-Chain.rest c.as_slice-in-Chain.result.now c.len.result c.in-Chain.is c.get-in-Chain.ensures c.as_slice-in-Chain.ensures c.len.ensures in
+    subst (λ j. IsJudged j c.chain_of.result) (sym is)
+    (chain_passes place v c.chain_of.result c.len.result (judged c.get-in-Chain.result.now v) (map (λ y. judged y.1 v) c.as_slice-in-Chain.result.now) c.in_ok-first-in-Chain.first c.in_ok-terms-in-Chain.terms c.in_ok-first-in-Chain.ensures c.in_ok-terms-in-Chain.ensures c.chain_of.ensures)
+
+pub judge-returns-in_err-of-in-Shift : goal.judge-returns-in_err-of-in-Shift
+judge-returns-in_err-of-in-Shift t c =
+    let place = c.args.expr.now.span.start in
+    let v = c.args.scopes.now in
+    let kind = c.args.expr.now.kind in
+    let is = shift_is place v kind c.in-Shift.of c.get-in-Shift.result.now c.in-Shift.amounts c.in-Shift.amounts c.in-Shift.is c.get-in-Shift.ensures refl in
+    first_refused (judged c.args.expr.now v) (judged c.get-in-Shift.result.now v) [] _ c.in_err-of-in-Shift.field-0.0 c.from_residual-in_err-of-in-Shift.result (ap (λ j. j.breaks) is) c.from_residual-in_err-of-in-Shift.ensures.1 c.in_err-of-in-Shift.ensures
+
+pub judge-returns-in_ok-of-in-Shift : goal.judge-returns-in_ok-of-in-Shift
+judge-returns-in_ok-of-in-Shift t c =
+    let place = c.args.expr.now.span.start in
+    let v = c.args.scopes.now in
+    let kind = c.args.expr.now.kind in
+    let is = shift_is place v kind c.in-Shift.of c.get-in-Shift.result.now c.in-Shift.amounts c.as_slice-in-Shift.result.now c.in-Shift.is c.get-in-Shift.ensures c.as_slice-in-Shift.ensures in
+    subst (λ j. IsJudged j c.shift_of.result) (sym is)
+    (shift_passes place v c.shift_of.result c.as_slice-in-Shift.result.now (length c.as_slice-in-Shift.result.now) (judged c.get-in-Shift.result.now v) c.in_ok-of-in-Shift.of c.in_ok-of-in-Shift.ensures c.shift_of.ensures)
+
+pub judge-returns-in_err-left-in-Compare : goal.judge-returns-in_err-left-in-Compare
+judge-returns-in_err-left-in-Compare t c =
+    let place = c.args.expr.now.span.start in
+    let v = c.args.scopes.now in
+    let kind = c.args.expr.now.kind in
+    let is = compare_is place v kind c.in-Compare.field-0 c.in-Compare.left c.in-Compare.right c.get-in-Compare.result.now c.in-Compare.right c.in-Compare.is c.get-in-Compare.ensures refl in
+    first_refused (judged c.args.expr.now v) (judged c.get-in-Compare.result.now v) (judged c.in-Compare.right v ∷ []) _ c.in_err-left-in-Compare.field-0.0 c.from_residual-in_err-left-in-Compare.result (ap (λ j. j.breaks) is)
+    c.from_residual-in_err-left-in-Compare.ensures.1 c.in_err-left-in-Compare.ensures
+
+pub judge-returns-in_err-right-in-Compare : goal.judge-returns-in_err-right-in-Compare
+judge-returns-in_err-right-in-Compare t c =
+    let place = c.args.expr.now.span.start in
+    let v = c.args.scopes.now in
+    let kind = c.args.expr.now.kind in
+    let is = compare_is place v kind c.in-Compare.field-0 c.in-Compare.left c.in-Compare.right c.get-in-Compare.result.now c.get-in-Compare-2.result.now c.in-Compare.is c.get-in-Compare.ensures c.get-in-Compare-2.ensures in
+    second_refused (judged c.args.expr.now v) (judged c.get-in-Compare.result.now v) (judged c.get-in-Compare-2.result.now v) _ c.in_err-right-in-Compare.field-0.0 c.from_residual-in_err-right-in-Compare.result (ap (λ j. j.breaks) is)
+    c.in_ok-left-in-Compare.ensures.0 c.from_residual-in_err-right-in-Compare.ensures.1 c.in_err-right-in-Compare.ensures
+
+pub judge-returns-in_ok-right-in-Compare : goal.judge-returns-in_ok-right-in-Compare
+judge-returns-in_ok-right-in-Compare t c =
+    let place = c.args.expr.now.span.start in
+    let v = c.args.scopes.now in
+    let kind = c.args.expr.now.kind in
+    let is = compare_is place v kind c.in-Compare.field-0 c.in-Compare.left c.in-Compare.right c.get-in-Compare.result.now c.get-in-Compare-2.result.now c.in-Compare.is c.get-in-Compare.ensures c.get-in-Compare-2.ensures in
+    subst (λ j. IsJudged j c.word_of_both.result) (sym is)
+    (word_from_both place v c.word_of_both.result (judged c.get-in-Compare.result.now v) (judged c.get-in-Compare-2.result.now v) c.in_ok-left-in-Compare.left c.in_ok-right-in-Compare.right c.in_ok-left-in-Compare.ensures c.in_ok-right-in-Compare.ensures c.word_of_both.ensures)
+
+pub judge_parts-returns-in_err-part : goal.judge_parts-returns-in_err-part
+judge_parts-returns-in_err-part t c =
+    let v = c.args.scopes.now in
+    let judged_part = λ (x : Spanned ExprKind). judged x v in
+    let e = c.in_err-part.field-0.0 in
+    let xs = c.args.parts.now in
+    handed_on (TellsParts (map judged_part xs)) (breaks_of (map judged_part xs)) e c.from_residual.result c.from_residual.ensures.1
+    (item_refused judged_part xs c.loop-part.part-index c.part-item.result e c.loop-part-test.true c.part-item.is c.loop-part.invariant.0 c.in_err-part.ensures)
+
+pub judge_parts-returns : goal.judge_parts-returns
+judge_parts-returns t c =
+    let v = c.args.scopes.now in
+    let judged_part = λ (x : Spanned ExprKind). judged x v in
+    let none = drop_all c.loop-part.part-index c.args.parts.now c.loop-part-test.false in
+    let inv = c.loop-part.invariant in (
+      inv.0 ∙ ap (λ xs. breaks_of (map judged_part xs)) none,
+      (
+        sym (append-nil c.loop-part.shapes) ∙ sym (ap (λ xs. c.loop-part.shapes ++ map (λ j. j.shape) (map judged_part xs)) none) ∙ inv.1,
+        weight_at_end c.loop-part.weight _ inv.3 (sym (ap (λ xs. min (c.loop-part.weight + weights (map judged_part xs)) (2 ^ 64 - 1)) none) ∙ inv.2),
+      ),
+    )
+
+pub judge_terms-returns-in_err-term : goal.judge_terms-returns-in_err-term
+judge_terms-returns-in_err-term t c =
+    let v = c.args.scopes.now in
+    let judged_term = λ (y : BinOp × Spanned ExprKind). judged y.1 v in
+    let e = c.in_err-term.field-0.0 in
+    let ys = c.args.terms.now in
+    handed_on (TellsTerms (map judged_term ys)) (breaks_of (map judged_term ys)) e c.from_residual.result c.from_residual.ensures.1
+    (item_refused judged_term ys c.loop-term.term-index c.loop-term-item.result e c.loop-term-test.true c.loop-term-item.is c.loop-term.invariant.0 c.in_err-term.ensures)
+
+pub judge_terms-returns : goal.judge_terms-returns
+judge_terms-returns t c =
+    let v = c.args.scopes.now in
+    let judged_term = λ (y : BinOp × Spanned ExprKind). judged y.1 v in
+    let none = drop_all c.loop-term.term-index c.args.terms.now c.loop-term-test.false in
+    let inv = c.loop-term.invariant in (
+      inv.0 ∙ ap (λ ys. breaks_of (map judged_term ys)) none,
+      (
+        or_false c.loop-term.no_words ∙ sym (ap (λ ys. c.loop-term.no_words || no_words (map judged_term ys)) none) ∙ inv.1,
+        weight_at_end c.loop-term.weight _ inv.3 (sym (ap (λ ys. min (c.loop-term.weight + weights (map judged_term ys)) (2 ^ 64 - 1)) none) ∙ inv.2),
+      ),
+    )
