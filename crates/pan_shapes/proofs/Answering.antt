@@ -3,8 +3,8 @@ use Rattle.std.proofs.Common.{◌≡◌, ℕ, Bool, true, false, List, [], ◌�
 use Rattle.std.proofs.lemmas.List.{append-nil}
 use Rattle.std.specs.Result.{IsErrAnd}
 use Rattle.std.proofs.lemmas.Result.{err_from_is_err_and}
-use Rattle.pan_shapes.specs.declared.rule.Rule.{Rule}
-use Rattle.pan_shapes.specs.Check.{Break, broken}
+use Rattle.pan_tree.specs.declared.rule.Rule.{Rule}
+use Rattle.pan_tree.specs.Check.{Break, broken}
 use Rattle.pan_shapes.specs.declared.error.CheckError.{CheckError}
 use Rattle.pan_shapes.specs.declared.error.CheckError.TheVariants as error
 use Rattle.pan_shapes.specs.Answers.{IsAnswer}

@@ -8,10 +8,10 @@ use Rattle.pan_tree.specs.declared.syntax.StmtKind.TheOpen as stmt
 use Rattle.pan_tree.specs.declared.syntax.Target.{Target}
 use Rattle.pan_tree.specs.declared.program.Param.{Param}
 use Rattle.pan_tree.specs.declared.program.Function.{Function}
-use Rattle.pan_shapes.specs.Shapes.{same}
-use Rattle.pan_shapes.specs.Check as check
-use Rattle.pan_shapes.specs.Check.{Break, broken}
-use Rattle.pan_shapes.specs.declared.rule.Rule.TheVariants.{TwoNames, UnknownName, UnknownFunction, UnknownException, WrongShape, WrongCount}
+use Rattle.pan_tree.specs.Shapes.{same}
+use Rattle.pan_tree.specs.Check as check
+use Rattle.pan_tree.specs.Check.{Break, broken}
+use Rattle.pan_tree.specs.declared.rule.Rule.TheVariants.{TwoNames, UnknownName, UnknownFunction, UnknownException, WrongShape, WrongCount}
 use Rattle.pan_shapes.specs.declared.judging.Judged.{Judged}
 use Rattle.pan_shapes.specs.Arguments.{differing, counted, misshapen, call_breaks, tail_breaks}
 use Rattle.pan_shapes.specs.Doings.{call_alone}

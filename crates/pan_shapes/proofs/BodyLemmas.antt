@@ -5,7 +5,7 @@ use Rattle.std.specs.Str.{bytes_eq}
 use Rattle.pan_tree.specs.declared.shape.Shape.{Shape}
 use Rattle.pan_tree.specs.declared.program.Function.{Function}
 use Rattle.pan_tree.specs.declared.program.Param.{Param}
-use Rattle.pan_shapes.specs.Check.{Break, repeats, parameters, in_scope, is_declared, function_heads}
+use Rattle.pan_tree.specs.Check.{Break, repeats, parameters, in_scope, is_declared, function_heads}
 use Rattle.pan_shapes.proofs.HeadLemmas.{twin_found, first_holds}
 
 -- ---- parameters

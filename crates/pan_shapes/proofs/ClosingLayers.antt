@@ -9,7 +9,7 @@ use Rattle.pan_tree.specs.declared.syntax.CallOf.{CallOf}
 use Rattle.pan_tree.specs.declared.syntax.StmtKind.{StmtKind, StmtKind-F, fold-roll-StmtKind, roll-StmtKind, map-StmtKind}
 use Rattle.pan_tree.specs.declared.syntax.StmtKind.TheOpen as open_stmt
 use Rattle.pan_tree.specs.declared.syntax.StmtKind.TheVariants as s
-use Rattle.pan_shapes.specs.Check.{last_of, block_closes, closes_layer, closes_kind, closes}
+use Rattle.pan_tree.specs.Check.{last_of, block_closes, closes_layer, closes_kind, closes}
 
 closes_roll : (x : StmtKind-F StmtKind) → closes_kind (roll-StmtKind x) ≡ closes_layer (map-StmtKind StmtKind Bool closes_kind x)
 unfolding closes_kind

@@ -2,7 +2,7 @@
 use Rattle.std.proofs.Common.{◌≡◌, ℕ, ◌+◌, ◌-◌, ◌^◌, min, ◌<◌, ◌≤◌, arith, List, ◌∷◌, ◌++◌, map, drop, length, get_or, Ok, Err, Result, sym, ap, subst, ◌∙◌, drop-cons, add-one}
 use Rattle.std.specs.Result.{IsErrAnd}
 use Rattle.std.proofs.lemmas.Result.{err_from_is_err_and}
-use Rattle.pan_shapes.specs.Check.{Break, Judged, breaks_of}
+use Rattle.pan_tree.specs.Check.{Break, Judged, breaks_of}
 use Rattle.pan_shapes.specs.declared.error.CheckError.{CheckError}
 use Rattle.pan_shapes.specs.declared.error.CheckError.TheVariants as error
 use Rattle.pan_shapes.specs.Answers.{IsAnswer}

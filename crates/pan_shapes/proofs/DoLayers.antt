@@ -12,7 +12,7 @@ use Rattle.pan_tree.specs.declared.syntax.Target.TheVariants as target
 use Rattle.pan_tree.specs.declared.syntax.StmtKind.{StmtKind, StmtKind-F, fold-roll-StmtKind, roll-StmtKind, out-StmtKind, roll-out-StmtKind, map-StmtKind}
 use Rattle.pan_tree.specs.declared.syntax.StmtKind.TheOpen as open_stmt
 use Rattle.pan_tree.specs.declared.syntax.StmtKind.TheVariants as s
-use Rattle.pan_shapes.specs.Check.{Scopes, Context, State, Doing, doing, do_layer, do_kind, declare, after_target, result_of, function_of, handle, in_order}
+use Rattle.pan_tree.specs.Check.{Scopes, Context, State, Doing, doing, do_layer, do_kind, declare, after_target, result_of, function_of, handle, in_order}
 use Rattle.pan_shapes.specs.Doings.{doings, handler_doings, call_doings}
 
 pub do_roll : (x : StmtKind-F StmtKind) → do_kind (roll-StmtKind x) ≡ do_layer (map-StmtKind StmtKind Doing do_kind x)

@@ -4,8 +4,8 @@ use Rattle.std.specs.Option.{option_map_or}
 use Rattle.std.specs.Result.{IsErrAnd}
 use Rattle.pan_tree.specs.declared.spanned.Spanned.{Spanned}
 use Rattle.pan_tree.specs.declared.syntax.StmtKind.{StmtKind}
-use Rattle.pan_shapes.specs.Check.{Break, Scope, Scopes, Context, State, Done, Doing, doing, do_kind, and_block, block, in_order, handle, exception_of, or_word}
-use Rattle.pan_shapes.specs.Shapes.{words_of}
+use Rattle.pan_tree.specs.Check.{Break, Scope, Scopes, Context, State, Done, Doing, doing, do_kind, and_block, block, in_order, handle, exception_of, or_word}
+use Rattle.pan_tree.specs.Shapes.{words_of}
 use Rattle.pan_tree.specs.declared.shape.Shape.TheVariants as shape
 use Rattle.pan_tree.specs.declared.program.Exception.{Exception}
 use Rattle.pan_tree.specs.declared.syntax.HandlerOf.{HandlerOf}

@@ -7,15 +7,15 @@ use Rattle.std.proofs.lemmas.List.{length-map}
 use Rattle.pan_base.specs.declared.operators.BinOp.{BinOp}
 use Rattle.pan_base.specs.declared.operators.ShOp.{ShOp}
 use Rattle.pan_base.specs.declared.operators.Cmp.{Cmp}
-use Rattle.pan_shapes.specs.declared.rule.Rule.TheVariants.{UnknownName, NotStruct, NoField, NotWord, BadShift, ShapeTooWide}
+use Rattle.pan_tree.specs.declared.rule.Rule.TheVariants.{UnknownName, NotStruct, NoField, NotWord, BadShift, ShapeTooWide}
 use Rattle.pan_tree.specs.declared.shape.Shape.{Shape}
 use Rattle.pan_tree.specs.declared.shape.Shape.TheVariants as shape
 use Rattle.pan_tree.specs.declared.spanned.Spanned.{Spanned}
 use Rattle.pan_tree.specs.declared.syntax.ExprKind.{ExprKind, ExprKind-F, fold-roll-ExprKind, roll-ExprKind, map-ExprKind}
 use Rattle.pan_tree.specs.declared.syntax.ExprKind.TheOpen as open_expr
 use Rattle.pan_tree.specs.declared.syntax.ExprKind.TheVariants as e
-use Rattle.pan_shapes.specs.Shapes.{APart, part_at, words_of}
-use Rattle.pan_shapes.specs.Check.{Scopes, Judged, Judging, judge_layer, judge_kind, judge, judged, whole, operators, no_words, or_word, shape_of, is_wide, part_shape, is_of_word, is_no_part}
+use Rattle.pan_tree.specs.Shapes.{APart, part_at, words_of}
+use Rattle.pan_tree.specs.Check.{Scopes, Judged, Judging, judge_layer, judge_kind, judge, judged, whole, operators, has_no_word, or_word, shape_of, is_wide, part_shape, is_of_word, is_no_part}
 use Rattle.pan_shapes.specs.declared.error.CheckError.TheVariants as error
 use Rattle.pan_shapes.specs.declared.judging.Judged.{Judged as Answer}
 use Rattle.pan_shapes.specs.Judging.{IsMade, IsJudged}
@@ -36,19 +36,19 @@ module _ (place : ℕ) (v : Scopes) where
   a_struct parts = let s = shape.Group (map (λ j. j.shape) parts) in whole place s parts ((ShapeTooWide, is_wide s) ∷ [])
 
   abbrev pub word_from : List Judged → Judged
-  word_from parts = whole place shape.Word parts ((NotWord, no_words parts) ∷ [])
+  word_from parts = whole place shape.Word parts ((NotWord, has_no_word parts) ∷ [])
 
   abbrev pub a_field : Judged → List ℕ → Judged
   a_field j is = let part = part_at (APart j.shape) is in whole place (part_shape part) (j ∷ []) ((NotStruct, is_of_word part) ∷ (NoField, is_no_part part) ∷ [])
 
   abbrev pub a_chain : ℕ → Judged → List Judged → Judged
-  a_chain n first terms = operators place n (first ∷ terms) ((NotWord, no_words (first ∷ terms)) ∷ [])
+  a_chain n first terms = operators place n (first ∷ terms) ((NotWord, has_no_word (first ∷ terms)) ∷ [])
 
   abbrev pub a_load : Shape → Judged → Judged
-  a_load s j = whole place s (j ∷ []) ((NotWord, no_words (j ∷ [])) ∷ (ShapeTooWide, is_wide s) ∷ [])
+  a_load s j = whole place s (j ∷ []) ((NotWord, has_no_word (j ∷ [])) ∷ (ShapeTooWide, is_wide s) ∷ [])
 
   abbrev pub a_shift : ℕ → List (ShOp × ℕ) → Judged → Judged
-  a_shift n ns j = operators place n (j ∷ []) ((NotWord, no_words (j ∷ [])) ∷ (BadShift, list_any (λ n. nat_lt 63 n.1) ns) ∷ [])
+  a_shift n ns j = operators place n (j ∷ []) ((NotWord, has_no_word (j ∷ [])) ∷ (BadShift, list_any (λ n. nat_lt 63 n.1) ns) ∷ [])
 
   pub judge_number : (n : ℕ) → judge_kind (e.Number n) place v ≡ a_word
   judge_number n = ap at (sym (e.rolls-Number n)) ∙ roll (open_expr.Number n) place v

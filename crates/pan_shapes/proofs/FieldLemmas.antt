@@ -4,8 +4,8 @@ use Rattle.std.proofs.lemmas.List.{length-replicate, get_or-replicate}
 use Rattle.std.proofs.lemmas.Option.{slice_get-get_or, slice_get_read, slice_get_past}
 use Rattle.pan_tree.specs.declared.shape.Shape.{Shape}
 use Rattle.pan_tree.specs.declared.shape.Shape.TheVariants as shape
-use Rattle.pan_shapes.specs.Shapes.{Part, APart, OfWord, NoPart, part_at, part_among, parts_of, found}
-use Rattle.pan_shapes.proofs.ShapeLayers.{parts_word, parts_words, parts_group}
+use Rattle.pan_tree.specs.Shapes.{Part, APart, OfWord, NoPart, part_at, part_among, parts_of, found}
+use Rattle.pan_tree.proofs.ShapeLayers.{parts_word, parts_words, parts_group}
 
 pub of_word : (is : List ℕ) → part_at OfWord is ≡ OfWord
 of_word [] = refl

@@ -5,7 +5,7 @@ use Rattle.std.specs.Str.{bytes_eq}
 use Rattle.std.specs.Option.{option_map_or}
 use Rattle.std.proofs.lemmas.Bool.{and_parts}
 use Rattle.std.proofs.lemmas.List.Folds.{list_all-append}
-use Rattle.pan_shapes.specs.declared.rule.Rule.TheVariants.{NoReturn, NotWord, TooMany}
+use Rattle.pan_tree.specs.declared.rule.Rule.TheVariants.{NoReturn, NotWord, TooMany}
 use Rattle.pan_tree.specs.declared.shape.Shape.TheVariants as shape
 use Rattle.pan_tree.specs.declared.spanned.Spanned.{Spanned}
 use Rattle.pan_tree.specs.declared.syntax.ExprKind.{ExprKind}
@@ -17,7 +17,7 @@ use Rattle.pan_tree.specs.declared.syntax.StmtKind.TheOpen as open_stmt
 use Rattle.pan_tree.specs.declared.program.Exception.{Exception}
 use Rattle.pan_tree.specs.declared.program.Function.{Function}
 use Rattle.pan_tree.specs.declared.program.Program.{Program}
-use Rattle.pan_shapes.specs.Check.{Scope, Context, State, Doing, broken, doing, do_kind, do_layer, in_order, block, body, bodies, names_after, parameters, exception_of, with_name, is_foreign_name, is_too_many, breaks_of, judged, no_words, lawful_layer, lawful_kind, closes}
+use Rattle.pan_tree.specs.Check.{Scope, Context, State, Doing, broken, doing, do_kind, do_layer, in_order, block, body, bodies, names_after, parameters, exception_of, with_name, is_foreign_name, is_too_many, breaks_of, judged, has_no_word, lawful_layer, lawful_kind, closes}
 use Rattle.pan_shapes.specs.Kept.{is_short_foreign}
 use Rattle.pan_shapes.proofs.Answering.{one_holds, others_hold}
 use Rattle.pan_shapes.proofs.BodyLemmas.{no_front, no_back}
@@ -84,8 +84,8 @@ or_false false b e = refl
 foreign_clean : (x : List ℕ) (a b d e : Spanned ExprKind) → is_foreign_name x ≡ true → Clean (do_layer (open_stmt.Foreign x a b d e))
 foreign_clean x a b d e law c place s none good =
     let parts = map (λ y. judged y s.scopes) (a ∷ b ∷ d ∷ e ∷ []) in
-    let rules = no_back (breaks_of parts) (broken place ((NotWord, no_words parts) ∷ (TooMany, is_too_many x s.names) ∷ [])) none in
-    let few = one_holds place TooMany (is_too_many x s.names) [] (others_hold place NotWord (no_words parts) ((TooMany, is_too_many x s.names) ∷ []) rules) in
+    let rules = no_back (breaks_of parts) (broken place ((NotWord, has_no_word parts) ∷ (TooMany, is_too_many x s.names) ∷ [])) none in
+    let few = one_holds place TooMany (is_too_many x s.names) [] (others_hold place NotWord (has_no_word parts) ((TooMany, is_too_many x s.names) ∷ []) rules) in
     let short : nat_lt 64 (length x) ≡ false = or_false (nat_lt 64 (length x)) _ few in
     name_added x s.names (and_true (is_foreign_name x) (not (nat_lt 64 (length x))) law (ap not short)) good
 

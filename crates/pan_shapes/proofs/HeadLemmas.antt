@@ -8,12 +8,12 @@ use Rattle.std.proofs.lemmas.List.{length-map, take_more, take-append-drop, map-
 use Rattle.std.proofs.lemmas.List.Folds.{list_any-append, find_at}
 use Rattle.std.proofs.lemmas.Option.{slice_get_past, slice_get-get_or}
 use Rattle.std.proofs.lemmas.Bool.Decides.{nat_tests}
-use Rattle.pan_shapes.specs.declared.rule.Rule.{Rule}
-use Rattle.pan_shapes.specs.declared.rule.Rule.TheVariants.{TwoNames, ShapeTooWide, TooMany}
+use Rattle.pan_tree.specs.declared.rule.Rule.{Rule}
+use Rattle.pan_tree.specs.declared.rule.Rule.TheVariants.{TwoNames, ShapeTooWide, TooMany}
 use Rattle.pan_tree.specs.declared.program.Exception.{Exception}
 use Rattle.pan_tree.specs.declared.program.Function.{Function}
 use Rattle.pan_tree.specs.declared.program.Param.{Param}
-use Rattle.pan_shapes.specs.Check.{broken, repeats, exception_heads, function_heads, is_wide, with_name}
+use Rattle.pan_tree.specs.Check.{broken, repeats, exception_heads, function_heads, is_wide, with_name}
 use Rattle.pan_shapes.proofs.NameLemmas.{flips}
 use Rattle.pan_shapes.specs.HeadRules.{exception_head, function_head, head_is_wide}
 

@@ -7,12 +7,12 @@ use Rattle.pan_tree.specs.declared.syntax.StmtKind.{StmtKind, StmtKind-F, ind-St
 use Rattle.pan_tree.specs.declared.syntax.StmtKind.TheOpen as open_stmt
 use Rattle.pan_tree.specs.declared.program.Function.{Function}
 use Rattle.pan_tree.specs.declared.program.Program.{Program}
-use Rattle.pan_shapes.specs.Check.{Scope, Scopes, Context, State, Doing, Done, doing, do_kind, do_layer, in_order, block, handle, body, parameters, weights, judged, exception_of, after_target, result_of, function_of}
+use Rattle.pan_tree.specs.Check.{Scope, Scopes, Context, State, Doing, Done, doing, do_kind, do_layer, in_order, block, handle, body, parameters, weights, judged, exception_of, after_target, result_of, function_of}
 use Rattle.pan_shapes.specs.Doings.{call_alone}
 use Rattle.pan_tree.specs.declared.syntax.ExprKind.{ExprKind}
 use Rattle.pan_tree.specs.declared.syntax.Target.{Target}
 use Rattle.std.specs.Option.{option_map_or}
-use Rattle.pan_shapes.specs.Shapes.{words_of}
+use Rattle.pan_tree.specs.Shapes.{words_of}
 use Rattle.pan_tree.specs.declared.shape.Shape.TheVariants as shape
 use Rattle.pan_tree.specs.declared.program.Exception.{Exception}
 use Rattle.pan_shapes.proofs.DoLayers.{do_roll}

@@ -4,12 +4,12 @@ use Rattle.std.specs.List.{list_any, fold}
 use Rattle.std.specs.Result.{IsErrAnd}
 use Rattle.std.proofs.lemmas.List.{append-nil}
 use Rattle.pan_base.specs.declared.operators.ShOp.{ShOp}
-use Rattle.pan_shapes.specs.declared.rule.Rule.TheVariants.{NotStruct, NoField, NotWord, BadShift, ShapeTooWide}
+use Rattle.pan_tree.specs.declared.rule.Rule.TheVariants.{NotStruct, NoField, NotWord, BadShift, ShapeTooWide}
 use Rattle.pan_tree.specs.declared.shape.Shape.{Shape}
 use Rattle.pan_tree.specs.declared.shape.Shape.TheVariants as shape
-use Rattle.pan_shapes.specs.Shapes.{APart, part_at, words_of, is_word}
-use Rattle.pan_shapes.specs.Check.{Break, Scopes, Judged, broken, breaks_of, weights, is_wide, part_shape, is_of_word, is_no_part}
-use Rattle.pan_shapes.proofs.ShapeLayers.{words_word}
+use Rattle.pan_tree.specs.Shapes.{APart, part_at, words_of, is_word}
+use Rattle.pan_tree.specs.Check.{Break, Scopes, Judged, broken, breaks_of, weights, is_wide, part_shape, is_of_word, is_no_part}
+use Rattle.pan_tree.proofs.ShapeLayers.{words_word}
 use Rattle.pan_shapes.specs.declared.error.CheckError.{CheckError}
 use Rattle.pan_shapes.specs.declared.judging.Judged.{Judged as Answer}
 use Rattle.pan_shapes.specs.declared.judging.Parts.{Parts}
@@ -98,14 +98,14 @@ module _ (place : ℕ) (v : Scopes) (r : Result Answer CheckError) where
   pub word_from_both : (j i : Judged) (left right : Answer) → Passes j left → Passes i right
       → IsAnswer (broken place ((NotWord, not (is_word left.shape) || not (is_word right.shape)) ∷ [])) (IsMade shape.Word (2 + (left.weight + right.weight))) r → IsJudged (word_from place v (j ∷ i ∷ [])) r
   word_from_both j i left right (none, tells) (none', tells') a =
-      let no_words = ap (λ s. not (is_word s) || not (is_word right.shape)) tells.0 ∙ ap (λ s. not (is_word j.shape) || not (is_word s)) tells'.0 ∙ ap (λ b. not (is_word j.shape) || b) (or_false (not (is_word i.shape))) in
+      let has_no_word = ap (λ s. not (is_word s) || not (is_word right.shape)) tells.0 ∙ ap (λ s. not (is_word j.shape) || not (is_word s)) tells'.0 ∙ ap (λ b. not (is_word j.shape) || b) (or_false (not (is_word i.shape))) in
       own_answer (word_from place v (j ∷ i ∷ [])) (j.breaks ++ (i.breaks ++ [])) _ _ (IsMade shape.Word (2 + (left.weight + right.weight))) r refl (ap (λ b. b ++ (i.breaks ++ [])) none ∙ append-nil i.breaks ∙ none')
-      (ap (λ b. broken place ((NotWord, b) ∷ [])) no_words) (λ k made. (made.0, omega (arith, made.1, tells.1, tells'.1, words_word))) a
+      (ap (λ b. broken place ((NotWord, b) ∷ [])) has_no_word) (λ k made. (made.0, omega (arith, made.1, tells.1, tells'.1, words_word))) a
 
   pub chain_passes : (n : ℕ) (j : Judged) (js : List Judged) (first : Answer) (terms : Terms) → Passes j first → (breaks_of js ≡ []) × TellsTerms js terms
-      → IsAnswer (broken place ((NotWord, not (is_word first.shape) || terms.no_words) ∷ [])) (IsMade shape.Word (2 * n + (first.weight + terms.weight))) r → IsJudged (a_chain place v n j js) r
+      → IsAnswer (broken place ((NotWord, not (is_word first.shape) || terms.has_no_word) ∷ [])) (IsMade shape.Word (2 * n + (first.weight + terms.weight))) r → IsJudged (a_chain place v n j js) r
   chain_passes n j js first terms (none, tells) (none', tells') a =
-      let words = ap (λ s. not (is_word s) || terms.no_words) tells.0 ∙ ap (λ b. not (is_word j.shape) || b) tells'.0 in
+      let words = ap (λ s. not (is_word s) || terms.has_no_word) tells.0 ∙ ap (λ b. not (is_word j.shape) || b) tells'.0 in
       own_answer (a_chain place v n j js) (j.breaks ++ breaks_of js) _ _ (IsMade shape.Word (2 * n + (first.weight + terms.weight))) r refl (ap (λ b. b ++ breaks_of js) none ∙ none')
       (ap (λ b. broken place ((NotWord, b) ∷ [])) words) (λ k made. (made.0, chain_weight n j.weight (weights js) first.weight terms.weight k.weight tells.1 tells'.1 made.1 ∙ ap (λ w. min (2 * n + w) (2 ^ 64 - 1)) (sym (weights_of_more j js)))) a
 

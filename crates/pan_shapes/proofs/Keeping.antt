@@ -2,10 +2,10 @@
 use Rattle.std.proofs.Common.{◌≡◌, ℕ, ◌-◌, ◌^◌, ◌≤◌, min, nat_lt, not, ◌&&◌, true, false, List, [], ◌∷◌, ◌++◌, map, codes, arith, refl, ap, ◌∙◌, append_assoc}
 use Rattle.std.specs.List.{list_all}
 use Rattle.std.proofs.lemmas.Bool.Decides.{nat_tests}
-use Rattle.pan_shapes.specs.declared.rule.Rule.TheVariants.{FunctionTooHeavy}
+use Rattle.pan_tree.specs.declared.rule.Rule.TheVariants.{FunctionTooHeavy}
 use Rattle.pan_tree.specs.declared.program.Function.{Function}
 use Rattle.pan_tree.specs.declared.program.Program.{Program}
-use Rattle.pan_shapes.specs.Check.{Break, broken, breaks, HasLawfulNames, function_of, function_weight, program_weight, foreign_names, main_breaks, bodies, weight_breaks}
+use Rattle.pan_tree.specs.Check.{Break, broken, breaks, HasLawfulNames, function_of, function_weight, program_weight, foreign_names, main_breaks, bodies, weight_breaks}
 use Rattle.pan_shapes.specs.HeadRules.{heads}
 use Rattle.pan_shapes.specs.Kept.{Kept, IsMainAt, is_short_foreign}
 use Rattle.pan_shapes.specs.Weights.{are_weights, heavy_functions}

@@ -1,4 +1,3 @@
-mod ShapeLayers
 mod Answering
 mod ArgumentLemmas
 mod BodyLemmas

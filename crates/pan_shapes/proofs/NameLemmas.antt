@@ -5,7 +5,7 @@ use Rattle.std.proofs.lemmas.List.{length-map}
 use Rattle.std.specs.Str.{bytes_eq}
 use Rattle.std.specs.Bool.{one_answer}
 use Rattle.std.proofs.lemmas.Slice.Eq.{bytes_eq-Decides}
-use Rattle.pan_shapes.specs.Check.{with_name}
+use Rattle.pan_tree.specs.Check.{with_name}
 use denote.Ref.{Bor}
 
 pub flips : (x y : List ℕ) → bytes_eq x y ≡ bytes_eq y x

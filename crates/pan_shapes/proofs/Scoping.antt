@@ -10,7 +10,7 @@ use Rattle.std.proofs.Math.Seq.{set-append_seam}
 use Rattle.std.proofs.lemmas.List.{map-append, take_all, length-take-le, take_more, reverse-append}
 use Rattle.indexmap.specs.IndexMap.{IndexMap, insert_entry}
 use Rattle.indexmap.proofs.CallerLemmas.{insert_entry-new}
-use Rattle.pan_shapes.specs.Check.{in_scope, shape_of, declare}
+use Rattle.pan_tree.specs.Check.{in_scope, shape_of, declare}
 
 abbrev pub seen : List (Bor (List ℕ) × Shape) → List (List ℕ × Shape)
 seen es = map (λ v. ((v.0).now, v.1)) es

@@ -1,6 +1,6 @@
 -- What the check answers.
 use Rattle.std.specs.Prelude.{◌≡◌, List, [], ◌∷◌, Result, Ok, Err}
-use Rattle.pan_shapes.specs.Check.{Break}
+use Rattle.pan_tree.specs.Check.{Break}
 use Rattle.pan_shapes.specs.declared.error.CheckError.{CheckError}
 use Rattle.pan_shapes.specs.declared.error.CheckError.TheVariants as error
 

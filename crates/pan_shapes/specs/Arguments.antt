@@ -1,12 +1,12 @@
 -- The arguments of a call, by their shapes.
 use Rattle.std.specs.Prelude.{ℕ, nat_eq, ◌&&◌, ◌||◌, not, Bool, false, List, [], ◌∷◌, length, Option, Some, None, option_map}
-use Rattle.pan_shapes.specs.declared.rule.Rule.TheVariants.{TwoNames, UnknownName, UnknownFunction, UnknownException, WrongShape, WrongCount}
+use Rattle.pan_tree.specs.declared.rule.Rule.TheVariants.{TwoNames, UnknownName, UnknownFunction, UnknownException, WrongShape, WrongCount}
 use Rattle.pan_tree.specs.declared.syntax.Target.{Target}
 use Rattle.pan_tree.specs.declared.shape.Shape.{Shape}
 use Rattle.pan_tree.specs.declared.program.Param.{Param}
 use Rattle.pan_tree.specs.declared.program.Function.{Function}
-use Rattle.pan_shapes.specs.Shapes.{same}
-use Rattle.pan_shapes.specs.Check.{Scopes, Break, broken, no_value, is_other, is_new_twice, is_old_unknown, is_old_other}
+use Rattle.pan_tree.specs.Shapes.{same}
+use Rattle.pan_tree.specs.Check.{Scopes, Break, broken, no_value, is_other, is_new_twice, is_old_unknown, is_old_other}
 
 -- one has another shape than its parameter
 abbrev pub differing : List Param → List Shape → Bool

@@ -1,6 +1,6 @@
 -- What follows from an answer, for programs that break a rule and for those that break none.
 use Rattle.std.specs.Prelude.{◌≡◌, Result, Ok, Err}
-use Rattle.pan_shapes.specs.Check.{Break}
+use Rattle.pan_tree.specs.Check.{Break}
 use Rattle.pan_shapes.specs.declared.error.CheckError.{CheckError}
 use Rattle.pan_shapes.specs.declared.error.CheckError.TheVariants as error
 

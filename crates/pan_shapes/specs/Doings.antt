@@ -1,6 +1,6 @@
 -- What checking statements answers.
 use Rattle.std.specs.Prelude.{◌≡◌, ℕ, ◌+◌, ◌-◌, ◌^◌, min, ◌||◌, Bool, List, [], ◌∷◌, map, Option, Some, None, Result}
-use Rattle.pan_shapes.specs.declared.rule.Rule.TheVariants.{NotWord, TwoNames, UnknownName, UnknownFunction, UnknownException, WrongShape, WrongCount}
+use Rattle.pan_tree.specs.declared.rule.Rule.TheVariants.{NotWord, TwoNames, UnknownName, UnknownFunction, UnknownException, WrongShape, WrongCount}
 use Rattle.pan_tree.specs.declared.spanned.Spanned.{Spanned}
 use Rattle.pan_tree.specs.declared.syntax.BlockOf.{BlockOf}
 use Rattle.pan_tree.specs.declared.syntax.HandlerOf.{HandlerOf}
@@ -8,8 +8,8 @@ use Rattle.pan_tree.specs.declared.syntax.CallOf.{CallOf}
 use Rattle.pan_tree.specs.declared.syntax.ExprKind.{ExprKind}
 use Rattle.pan_tree.specs.declared.syntax.StmtKind.{StmtKind, StmtKind-F}
 use Rattle.pan_tree.specs.declared.syntax.Target.{Target}
-use Rattle.pan_shapes.specs.Shapes.{words_of}
-use Rattle.pan_shapes.specs.Check.{Context, State, Done, Doing, doing, do_layer, plain, judged, no_words, function_of, result_of, no_value, is_new_twice, is_old_unknown, is_old_other, target_words, after_target, wrong_shape, wrong_count}
+use Rattle.pan_tree.specs.Shapes.{words_of}
+use Rattle.pan_tree.specs.Check.{Context, State, Done, Doing, doing, do_layer, plain, judged, has_no_word, function_of, result_of, no_value, is_new_twice, is_old_unknown, is_old_other, target_words, after_target, wrong_shape, wrong_count}
 use Rattle.pan_shapes.specs.declared.error.CheckError.{CheckError}
 use Rattle.pan_shapes.specs.declared.walking.Around.{Around}
 use Rattle.pan_shapes.specs.declared.walking.Walk.{Walk}
@@ -42,7 +42,7 @@ call_doings k = record { into = k.into; function = k.function; args = k.args; ha
 
 -- the word that `if` and `while` ask for, before their blocks
 abbrev pub condition_alone : Spanned ExprKind → ℕ → State → Done
-condition_alone e place s = let parts = judged e s.scopes ∷ [] in plain place 0 parts ((NotWord, no_words parts) ∷ []) s
+condition_alone e place s = let parts = judged e s.scopes ∷ [] in plain place 0 parts ((NotWord, has_no_word parts) ∷ []) s
 
 -- a call but for its handler, which may name an exception that isn't known
 abbrev pub call_alone : Target → List ℕ → List (Spanned ExprKind) → Bool → Context → ℕ → State → Done

@@ -1,5 +1,5 @@
 -- What is found at numbers of parts.
-use Rattle.pan_shapes.specs.Shapes.{Part, APart, OfWord, NoPart}
+use Rattle.pan_tree.specs.Shapes.{Part, APart, OfWord, NoPart}
 use Rattle.pan_shapes.specs.declared.fields.Found.{Found}
 use Rattle.pan_shapes.specs.declared.fields.Found.TheVariants as found
 

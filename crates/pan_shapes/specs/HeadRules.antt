@@ -2,12 +2,12 @@
 use Rattle.std.specs.Prelude.{ℕ, Bool, nat_lt, ◌||◌, not, List, [], ◌∷◌, ◌++◌, map, length}
 use Rattle.std.specs.List.{list_any}
 use Rattle.std.specs.Str.{bytes_eq}
-use Rattle.pan_shapes.specs.declared.rule.Rule.TheVariants.{TwoNames, ShapeTooWide, TooMany}
+use Rattle.pan_tree.specs.declared.rule.Rule.TheVariants.{TwoNames, ShapeTooWide, TooMany}
 use Rattle.pan_tree.specs.declared.program.Param.{Param}
 use Rattle.pan_tree.specs.declared.program.Exception.{Exception}
 use Rattle.pan_tree.specs.declared.program.Function.{Function}
 use Rattle.pan_tree.specs.declared.program.Program.{Program}
-use Rattle.pan_shapes.specs.Check.{exception_heads, function_heads, Break, broken, max_words, is_wide, parameter_words, repeats}
+use Rattle.pan_tree.specs.Check.{exception_heads, function_heads, Break, broken, max_words, is_wide, parameter_words, repeats}
 
 -- what an exception breaks, after exceptions of these names
 abbrev pub exception_head : List (List ℕ) → Exception → List Break

@@ -1,6 +1,6 @@
 -- What is told of expressions that break no rule.
 use Rattle.std.specs.Prelude.{◌≡◌, ℕ, ◌-◌, ◌^◌, min, List, map, Result}
-use Rattle.pan_shapes.specs.Check as check
+use Rattle.pan_tree.specs.Check as check
 use Rattle.pan_shapes.specs.declared.error.CheckError.{CheckError}
 use Rattle.pan_tree.specs.declared.shape.Shape.{Shape}
 use Rattle.pan_shapes.specs.declared.judging.Judged.{Judged}
@@ -32,7 +32,7 @@ AreParts js result = IsAnswer (check.breaks_of js) (TellsParts js) result
 
 -- whether some is no word, and the sum of the weights
 abbrev pub TellsTerms : List check.Judged → Terms → Type 0
-TellsTerms js t = (t.no_words ≡ check.no_words js) × (t.weight ≡ min (check.weights js) (2 ^ 64 - 1))
+TellsTerms js t = (t.has_no_word ≡ check.has_no_word js) × (t.weight ≡ min (check.weights js) (2 ^ 64 - 1))
 
 abbrev pub AreTerms : List check.Judged → Result Terms CheckError → Type 0
 AreTerms js result = IsAnswer (check.breaks_of js) (TellsTerms js) result

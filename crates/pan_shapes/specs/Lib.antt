@@ -1,5 +1,3 @@
-pub mod Check
-pub mod Shapes
 pub mod Answers
 pub mod Arguments
 pub mod Directions

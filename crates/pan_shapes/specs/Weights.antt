@@ -1,9 +1,9 @@
 -- What functions weigh, as the check keeps it, and what a body breaks with the end of the function.
 use Rattle.std.specs.Prelude.{◌≡◌, ℕ, ◌-◌, ◌^◌, min, not, List, [], ◌∷◌, ◌++◌, map, flat_map, nat_lt, Result}
-use Rattle.pan_shapes.specs.declared.rule.Rule.TheVariants.{NoReturn, FunctionTooHeavy}
+use Rattle.pan_tree.specs.declared.rule.Rule.TheVariants.{NoReturn, FunctionTooHeavy}
 use Rattle.pan_tree.specs.declared.program.Function.{Function}
 use Rattle.pan_tree.specs.declared.program.Program.{Program}
-use Rattle.pan_shapes.specs.Check.{Break, broken, body, closes, function_weight}
+use Rattle.pan_tree.specs.Check.{Break, broken, body, closes, function_weight}
 use Rattle.pan_shapes.specs.declared.error.CheckError.{CheckError}
 use Rattle.pan_shapes.specs.declared.walking.Walk.{Walk}
 use Rattle.pan_shapes.specs.Answers.{IsAnswer}

@@ -1,19 +1,18 @@
 //! Statements, with those that have blocks.
 
 ghost use Rattle.std.specs.Prelude.{◌≡◌, [], map};
-ghost use Rattle.pan_shapes.specs.Check.{doing, do_kind, in_order, block, handle, handler_unknown};
+ghost use Rattle.pan_tree.specs.Check.{doing, do_kind, in_order, block, handle, handler_unknown};
 ghost use Rattle.pan_shapes.specs.Doings.{IsDone, context, state, doings, handler_doings};
 
 use crate::calls::{check_call_alone, check_tail_call, copy_of_known};
 use crate::error::CheckError;
-use crate::shapes::words;
 use crate::statements::{
     STMT_WEIGHT, check_assign, check_condition, check_decl, check_foreign, check_leave,
     check_raise, check_return, check_shared_load, check_store_words, check_two_words,
     shape_of_exception,
 };
 use crate::walking::{Around, Walk};
-use pan_tree::{Block, Handler, Stmt, StmtKind};
+use pan_tree::{Block, Handler, Stmt, StmtKind, count_words};
 
 /// Checks a statement, and answers what it weighs, or 2^64 - 1 where that is less.
 #[cycle(stmt)]
@@ -106,7 +105,7 @@ fn check_handler<'p>(
                 around.alloc,
                 shape_of_exception(around.heads, &handler.exception),
             )?;
-            let weight = STMT_WEIGHT.saturating_add(words(&shape));
+            let weight = STMT_WEIGHT.saturating_add(count_words(&shape));
             walk.scopes.enter()?;
             walk.scopes.declare(handler.name.as_bytes(), shape)?;
             let body = check_stmts(around, handler.body.stmts.as_slice(), walk)?;

@@ -1,7 +1,7 @@
 //! Bodies of functions.
 
 ghost use Rattle.std.specs.Prelude.{◌≡◌, ◌-◌, ◌^◌, false, [], ◌∷◌, map, min, OnOk};
-ghost use Rattle.pan_shapes.specs.Check.{parameters, repeats, body, bodies, function_heads, names_after, function_weight};
+ghost use Rattle.pan_tree.specs.Check.{parameters, repeats, body, bodies, function_heads, names_after, function_weight};
 ghost use Rattle.pan_shapes.specs.Answers.{IsAnswer};
 ghost use Rattle.pan_shapes.specs.Doings.{IsDone};
 ghost use Rattle.pan_shapes.specs.Weights.{are_weights, body_breaks, IsFunctionDone};
@@ -12,13 +12,11 @@ use crate::error::CheckError;
 use crate::heads::{Heads, words_of_params};
 use crate::names::Names;
 use crate::refusals::refuse;
-use crate::rule::Rule;
 use crate::scopes::Scopes;
-use crate::shapes::{copy_shape, words};
 use crate::statements::STMT_WEIGHT;
 use crate::walking::{Around, Walk};
 use pan_base::{List, NoMemory};
-use pan_tree::{Function, Param};
+use pan_tree::{Function, Param, Rule, copy_shape, count_words};
 use std::alloc::Global;
 
 /// Declares the parameters, of which no two have one name, in a block that has no variable yet.
@@ -79,7 +77,7 @@ fn check_function<'p>(
     Ok(
         STMT_WEIGHT
             .saturating_add(words_of_params(function.params.as_slice()))
-            .saturating_add(words(&function.result))
+            .saturating_add(count_words(&function.result))
             .saturating_add(body),
     )
 }

@@ -3,8 +3,8 @@
 ghost use Rattle.std.specs.Prelude.{◌≡◌, ◌+◌, ◌-◌, ◌^◌, min, ◌&&◌, not, nat_eq, nat_lt, length, map, sum, option_map, false, IfOk, OnOk};
 ghost use Rattle.std.specs.Option.{option_copied};
 ghost use Rattle.pan_tree.specs.declared.syntax.StmtKind.TheOpen as stmt;
-ghost use Rattle.pan_shapes.specs.Shapes.{words_of};
-ghost use Rattle.pan_shapes.specs.Check as check;
+ghost use Rattle.pan_tree.specs.Shapes.{words_of};
+ghost use Rattle.pan_tree.specs.Check as check;
 ghost use Rattle.pan_tree.specs.declared.program.Function.{Function};
 ghost use Rattle.pan_shapes.specs.Answers.{IsAnswer};
 ghost use Rattle.pan_shapes.specs.Doings.{Does, IsDone, call_alone, context, state};
@@ -13,13 +13,11 @@ ghost use Rattle.pan_shapes.specs.Arguments.{differing, counted, misshapen, call
 use crate::error::CheckError;
 use crate::judging::{Judged, judge_all};
 use crate::refusals::refuse;
-use crate::rule::Rule;
 use crate::scopes::Scopes;
-use crate::shapes::{copy_shape, same, words};
 use crate::statements::{STMT_WEIGHT, is_other, words_of_known};
 use crate::walking::{Around, Walk};
 use pan_base::{NoMemory, Text};
-use pan_tree::{Call, Expr, Function, Param, Shape, Target};
+use pan_tree::{Call, Expr, Function, Param, Rule, Shape, Target, copy_shape, same, words};
 use std::alloc::Global;
 
 /// What the arguments weigh together, or 2^64 - 1 where that is less.

@@ -1,7 +1,7 @@
 //! Programs that keep every rule.
 
 ghost use Rattle.std.specs.Prelude.{◌≡◌, ◌<◌, ◌≤◌, IsTrue, Some, codes, length, map, option_map, slice_get};
-ghost use Rattle.pan_shapes.specs.Check as check;
+ghost use Rattle.pan_tree.specs.Check as check;
 ghost use Rattle.pan_shapes.specs.Kept.{Kept, IsMainAt};
 
 use pan_base::{Blob, List};

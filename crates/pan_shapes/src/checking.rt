@@ -1,7 +1,7 @@
 //! The check of a whole program.
 
 ghost use Rattle.std.specs.Prelude.{◌≡◌, codes};
-ghost use Rattle.pan_shapes.specs.Check.{Break, IsFirst, IsWellShaped, HasLawfulNames, breaks, function_of, main_breaks};
+ghost use Rattle.pan_tree.specs.Check.{Break, IsFirst, IsWellShaped, HasLawfulNames, breaks, function_of, main_breaks};
 ghost use Rattle.pan_shapes.specs.Answers.{IsAnswer};
 ghost use Rattle.pan_shapes.specs.Directions.{IsRefusedFor, IsAccepted};
 ghost use Rattle.pan_shapes.specs.Kept.{Kept, IsMainAt};
@@ -11,11 +11,9 @@ use crate::checked::Checked;
 use crate::error::CheckError;
 use crate::heads::Heads;
 use crate::refusals::refuse;
-use crate::rule::Rule;
-use crate::shapes::is_word;
 use crate::weights::refuse_heavy;
 use pan_base::{Blob, List};
-use pan_tree::Program;
+use pan_tree::{Program, Rule, is_word};
 use std::alloc::Global;
 
 /// What is kept of a program that keeps every rule.

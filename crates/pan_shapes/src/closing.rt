@@ -1,7 +1,7 @@
 //! Whether a body ends with a return or a raise.
 
 ghost use Rattle.std.specs.Prelude.{◌≡◌};
-ghost use Rattle.pan_shapes.specs.Check.{closes, closes_kind};
+ghost use Rattle.pan_tree.specs.Check.{closes, closes_kind};
 
 use pan_tree::{Block, Stmt, StmtKind};
 

@@ -1,7 +1,7 @@
 //! Why a program is refused.
 
-use crate::rule::Rule;
 use pan_base::NoMemory;
+use pan_tree::Rule;
 use std::alloc::AllocError;
 
 /// Why a program is refused.

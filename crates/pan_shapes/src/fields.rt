@@ -1,13 +1,12 @@
 //! Parts of shapes.
 
 ghost use Rattle.std.specs.Prelude.{◌≡◌, IfOk};
-ghost use Rattle.pan_shapes.specs.Shapes.{APart};
-ghost use Rattle.pan_shapes.specs.Shapes as shapes;
+ghost use Rattle.pan_tree.specs.Shapes.{APart};
+ghost use Rattle.pan_tree.specs.Shapes as shapes;
 ghost use Rattle.pan_shapes.specs.Fields.{as_part};
 
-use crate::shapes::copy_shape;
 use pan_base::NoMemory;
-use pan_tree::Shape;
+use pan_tree::{Shape, copy_shape};
 use std::alloc::Global;
 
 /// What is found at some numbers of parts, one after another.

@@ -2,17 +2,15 @@
 
 ghost use Rattle.std.specs.Prelude.{◌≡◌, ◌<◌, ◌-◌, ◌^◌, [], map, min, None, Some, length, slice_get, IfOk, MatchOption};
 ghost use Rattle.std.specs.Option.{option_copied};
-ghost use Rattle.pan_shapes.specs.Check as check;
+ghost use Rattle.pan_tree.specs.Check as check;
 ghost use Rattle.pan_shapes.specs.Answers.{IsAnswer};
 ghost use Rattle.pan_shapes.specs.HeadRules.{exception_head, head_repeats, head_is_wide, function_head, heads};
 
 use crate::error::CheckError;
 use crate::names::Names;
 use crate::refusals::refuse;
-use crate::rule::Rule;
-use crate::shapes::words;
 use pan_base::NoMemory;
-use pan_tree::{Exception, Function, Param, Program, Shape};
+use pan_tree::{Exception, Function, Param, Program, Rule, Shape, count_words, words};
 use std::alloc::Global;
 use std::marker::Model;
 
@@ -70,7 +68,7 @@ pub fn words_of_params(params: &[Param]) -> u64
 {
     let mut total: u64 = 0;
     for param in params {
-        total = total.saturating_add(words(&param.shape));
+        total = total.saturating_add(count_words(&param.shape));
     }
     total
 }

@@ -4,21 +4,19 @@ ghost use Rattle.std.specs.Prelude.{◌≡◌, ◌+◌, ◌*◌, ◌-◌, ◌^�
 ghost use Rattle.std.specs.List.{list_any};
 ghost use Rattle.pan_tree.specs.declared.shape.Shape.TheVariants as shape;
 ghost use Rattle.pan_tree.specs.declared.syntax.ExprKind.TheVariants as e;
-ghost use Rattle.pan_shapes.specs.declared.rule.Rule.TheVariants as rule;
-ghost use Rattle.pan_shapes.specs.Shapes.{APart, part_at, words_of, is_word};
-ghost use Rattle.pan_shapes.specs.Check.{judged, judge_kind};
-ghost use Rattle.pan_shapes.specs.Check as check;
+ghost use Rattle.pan_tree.specs.declared.rule.Rule.TheVariants as rule;
+ghost use Rattle.pan_tree.specs.Shapes.{APart, part_at, words_of, is_word};
+ghost use Rattle.pan_tree.specs.Check.{judged, judge_kind};
+ghost use Rattle.pan_tree.specs.Check as check;
 ghost use Rattle.pan_shapes.specs.Answers.{IsAnswer};
 ghost use Rattle.pan_shapes.specs.Judging.{IsJudged, AreJudged, AreParts, AreTerms, IsMade};
 
 use crate::error::CheckError;
 use crate::fields::{Found, part_at};
 use crate::refusals::refuse;
-use crate::rule::Rule;
 use crate::scopes::Scopes;
-use crate::shapes::{copy_shape, is_word, words};
 use pan_base::{BinOp, List, ShOp};
-use pan_tree::{Expr, ExprKind, Shape};
+use pan_tree::{Expr, ExprKind, Rule, Shape, copy_shape, count_words, is_word, words};
 use std::alloc::Global;
 
 /// The greatest number of words of a shape.
@@ -41,7 +39,7 @@ pub struct Parts {
 /// Whether some of the terms of a chain is no word, and what they weigh together, or 2^64 - 1 where that is less.
 #[derive(Clone, Copy, Drop)]
 pub struct Terms {
-    pub no_words: bool,
+    pub has_no_word: bool,
     pub weight: u64,
 }
 
@@ -50,7 +48,7 @@ fn made_of(shape: Shape, parts: u64) -> Judged
     ensures shaped { result.shape ≡ shape }
     ensures weighs { result.weight ≡ min (1 + words_of shape + parts) (2 ^ 64 - 1) }
 {
-    let weight = words(&shape).saturating_add(parts).saturating_add(1);
+    let weight = count_words(&shape).saturating_add(parts).saturating_add(1);
     Judged { shape, weight }
 }
 
@@ -69,8 +67,8 @@ fn word_of(place: u32, of: &Judged) -> Result<Judged, CheckError>
 fn word_of_both(place: u32, left: &Judged, right: &Judged) -> Result<Judged, CheckError>
     ensures { IsAnswer (check.broken place ((rule.NotWord, not (is_word left.now.shape) || not (is_word right.now.shape)) ∷ [])) (IsMade shape.Word (2 + (left.now.weight + right.now.weight))) result }
 {
-    let no_words = !is_word(&left.shape) || !is_word(&right.shape);
-    refuse(place, &[(Rule::NotWord, no_words)])?;
+    let has_no_word = !is_word(&left.shape) || !is_word(&right.shape);
+    refuse(place, &[(Rule::NotWord, has_no_word)])?;
     let weight = left.weight.saturating_add(right.weight).saturating_add(2);
     Ok(Judged {
         shape: Shape::Word,
@@ -150,10 +148,10 @@ fn shifts_too_far(amounts: &[(ShOp, u64)]) -> bool
 
 /// A chain of a part and of terms, all of which must be words.
 fn chain_of(place: u32, first: &Judged, rest: Terms, count: usize) -> Result<Judged, CheckError>
-    ensures { IsAnswer (check.broken place ((rule.NotWord, not (is_word first.now.shape) || rest.no_words) ∷ [])) (IsMade shape.Word (2 * count + (first.now.weight + rest.weight))) result }
+    ensures { IsAnswer (check.broken place ((rule.NotWord, not (is_word first.now.shape) || rest.has_no_word) ∷ [])) (IsMade shape.Word (2 * count + (first.now.weight + rest.weight))) result }
 {
-    let no_words = !is_word(&first.shape) || rest.no_words;
-    refuse(place, &[(Rule::NotWord, no_words)])?;
+    let has_no_word = !is_word(&first.shape) || rest.has_no_word;
+    refuse(place, &[(Rule::NotWord, has_no_word)])?;
     let weight = (count as u64)
         .saturating_mul(2)
         .saturating_add(first.weight)
@@ -255,14 +253,17 @@ fn judge_terms(
 ) -> Result<Terms, CheckError>
     ensures { AreTerms (map (λ y. judged y.1 scopes.now) terms.now) result }
 {
-    let mut no_words = false;
+    let mut has_no_word = false;
     let mut weight: u64 = 0;
     for (_, term) in terms {
         let term = judge(alloc, term, scopes)?;
-        no_words = no_words || !is_word(&term.shape);
+        has_no_word = has_no_word || !is_word(&term.shape);
         weight = weight.saturating_add(term.weight);
     }
-    Ok(Terms { no_words, weight })
+    Ok(Terms {
+        has_no_word,
+        weight,
+    })
 }
 
 /// The shapes and weights of the expressions, in their order.

@@ -3,7 +3,7 @@
 ghost use Rattle.std.specs.Prelude.{◌≡◌, ◌<◌, [], length, slice_get, Some, position, IfOk, OnOk};
 ghost use Rattle.std.specs.List.{list_any};
 ghost use Rattle.std.specs.Str.{bytes_eq};
-ghost use Rattle.pan_shapes.specs.Check.{with_name};
+ghost use Rattle.pan_tree.specs.Check.{with_name};
 
 use indexmap::IndexSet;
 use pan_base::{Blob, List, NoMemory};

@@ -1,10 +1,10 @@
 //! Rules, asked in their order.
 
-ghost use Rattle.pan_shapes.specs.Check.{broken};
+ghost use Rattle.pan_tree.specs.Check.{broken};
 ghost use Rattle.pan_shapes.specs.Answers.{IsAnswer};
 
 use crate::error::CheckError;
-use crate::rule::Rule;
+use pan_tree::Rule;
 
 /// Refuses the part at this place for the first of the rules that it breaks, if it breaks any.
 pub fn refuse(place: u32, rules: &[(Rule, bool)]) -> Result<(), CheckError>

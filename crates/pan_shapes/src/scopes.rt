@@ -2,7 +2,7 @@
 
 ghost use Rattle.std.specs.Prelude.{◌≡◌, [], ◌∷◌, ◌++◌, drop, None, false, OnOk, OnErr};
 ghost use Rattle.std.specs.Option.{option_copied};
-ghost use Rattle.pan_shapes.specs.Check as check;
+ghost use Rattle.pan_tree.specs.Check as check;
 
 use indexmap::IndexMap;
 use pan_base::NoMemory;

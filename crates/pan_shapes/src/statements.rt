@@ -3,8 +3,8 @@
 ghost use Rattle.std.specs.Prelude.{◌≡◌, ◌-◌, ◌^◌, min, not, map, [], ◌∷◌, option_map};
 ghost use Rattle.std.specs.Option.{option_copied};
 ghost use Rattle.pan_tree.specs.declared.syntax.StmtKind.TheOpen as stmt;
-ghost use Rattle.pan_shapes.specs.Shapes.{words_of, is_word};
-ghost use Rattle.pan_shapes.specs.Check.{or_word, is_other, exception_of, judged};
+ghost use Rattle.pan_tree.specs.Shapes.{words_of, is_word};
+ghost use Rattle.pan_tree.specs.Check.{or_word, is_other, exception_of, judged};
 ghost use Rattle.pan_tree.specs.declared.program.Exception.{Exception};
 ghost use Rattle.pan_shapes.specs.Doings.{Does, IsDone, condition_alone, state};
 ghost use Rattle.pan_shapes.specs.Pairs.{AreWords};
@@ -13,12 +13,10 @@ use crate::error::CheckError;
 use crate::heads::Heads;
 use crate::judging::judge;
 use crate::refusals::refuse;
-use crate::rule::Rule;
 use crate::scopes::Scopes;
-use crate::shapes::{is_word, same, words};
 use crate::walking::{Around, Walk};
 use pan_base::{Size, Text};
-use pan_tree::{Expr, Shape};
+use pan_tree::{Expr, Rule, Shape, count_words, is_word, same};
 use std::alloc::Global;
 
 /// What a statement weighs alone.
@@ -36,7 +34,7 @@ pub fn words_of_known(known: Option<&Shape>) -> u64
 {
     match known {
         None => 1,
-        Some(shape) => words(shape),
+        Some(shape) => count_words(shape),
     }
 }
 
@@ -75,7 +73,7 @@ pub fn check_decl<'p>(
     refuse(place, &[(Rule::TwoNames, is_twice)])?;
     let weight = STMT_WEIGHT
         .saturating_add(value.weight)
-        .saturating_add(words(&value.shape));
+        .saturating_add(count_words(&value.shape));
     walk.scopes.declare(name.as_bytes(), value.shape)?;
     Ok(weight)
 }

@@ -1,14 +1,13 @@
 //! What functions weigh, and how much they may.
 
 ghost use Rattle.std.specs.Prelude.{◌≡◌, ◌-◌, ◌^◌, min, sum};
-ghost use Rattle.pan_shapes.specs.Check.{weight_breaks, program_weight};
+ghost use Rattle.pan_tree.specs.Check.{weight_breaks, program_weight};
 ghost use Rattle.pan_shapes.specs.Answers.{IsAnswer};
 ghost use Rattle.pan_shapes.specs.Weights.{are_weights, heavy_functions};
 
 use crate::error::CheckError;
 use crate::refusals::refuse;
-use crate::rule::Rule;
-use pan_tree::Program;
+use pan_tree::{Program, Rule};
 
 /// The greatest weight of a function.
 pub const MAX_FUNCTION_WEIGHT: u64 = 16384;

@@ -1,7 +1,7 @@
 -- Which tokens spell which program, one case for each production of the grammar.
 -- `AnExpr May k before after x`: the tokens of `before` that come before its tail `after` spell x, where k brackets and prefix operators are open.
 -- A token that opens one more must be allowed to: `May j rest` says of `rest`, which begins with it, that it may stand there j deep.
-use Rattle.std.specs.Prelude.{◌≡◌, ℕ, ◌+◌, ◌<◌, ◌≤◌, List, [], ◌∷◌, ◌++◌, length, Option, Some, None}
+use Rattle.std.specs.Prelude.{◌≡◌, ℕ, ◌+◌, ◌≤◌, List, [], ◌∷◌, ◌++◌, Option, Some, None}
 use Rattle.pan_base.specs.declared.operators.BinOp.{BinOp}
 use Rattle.pan_base.specs.declared.operators.ShOp.{ShOp}
 use Rattle.pan_base.specs.declared.operators.Cmp.{Cmp}
@@ -10,20 +10,17 @@ use Rattle.pan_base.specs.declared.tokens.Keyword.{Keyword}
 use Rattle.pan_base.specs.declared.tokens.Keyword.TheVariants as keyword
 use Rattle.pan_base.specs.declared.tokens.Sign.{Sign}
 use Rattle.pan_base.specs.declared.tokens.Sign.TheVariants as sign
-use Rattle.pan_base.specs.Tokens.{Placed, Kind, Name, Reserved, Number, Load, Store, Foreign, Base, Biw, ASign}
+use Rattle.pan_base.specs.Tokens.{Placed, Name, Reserved, Number, Load, Store, Foreign, Base, Biw, ASign}
 use Rattle.pan_tree.specs.declared.level.Level.{Level}
 use Rattle.pan_tree.specs.declared.level.Level.TheVariants as level
 use Rattle.pan_tree.specs.declared.shape.Shape.{Shape}
 use Rattle.pan_tree.specs.declared.shape.Shape.TheVariants as shape
 use Rattle.pan_tree.specs.declared.spanned.Spanned.{Spanned}
-use Rattle.pan_tree.specs.declared.syntax.ExprKind.{ExprKind}
 use Rattle.pan_tree.specs.declared.syntax.ExprKind.TheVariants as e
 use Rattle.pan_tree.specs.declared.syntax.StmtKind.{StmtKind}
 use Rattle.pan_tree.specs.declared.syntax.StmtKind.TheVariants as s
-use Rattle.pan_tree.specs.declared.syntax.Target.{Target}
 use Rattle.pan_tree.specs.declared.syntax.Target.TheVariants as target
 use Rattle.pan_tree.specs.declared.syntax.BlockOf.{BlockOf}
-use Rattle.pan_tree.specs.declared.syntax.CallOf.{CallOf}
 use Rattle.pan_tree.specs.declared.syntax.HandlerOf.{HandlerOf}
 use Rattle.pan_tree.specs.declared.program.Param.{Param}
 use Rattle.pan_tree.specs.declared.program.Exception.{Exception}

@@ -1,4 +1,5 @@
-pub mod Weight
+pub mod Shapes
+pub mod Check
 pub mod Value
 pub mod Meaning
 pub mod Nodes

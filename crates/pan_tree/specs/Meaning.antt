@@ -9,7 +9,7 @@ use Rattle.pan_control.specs.World.{World, entered}
 use Rattle.pan_control.specs.Seen.{Seen}
 use Rattle.pan_control.specs.Control.{Outcome, Normal, Broken, Continued, Returned, Raised, Over, Meaning, in_turn, with_value, where_true, ask, left, world_of}
 use Rattle.pan_tree.specs.Value.{Value, Word, word_of, Scopes}
-use Rattle.pan_tree.specs.Weight.{cost}
+use Rattle.pan_tree.specs.Check.{cost}
 use Rattle.pan_tree.specs.declared.spanned.Spanned.{Spanned}
 use Rattle.pan_tree.specs.declared.syntax.ExprKind.{ExprKind, ExprKind-F, fold-ExprKind}
 use Rattle.pan_tree.specs.declared.syntax.ExprKind.TheOpen as expr
@@ -75,8 +75,8 @@ run_kind = fold-StmtKind Does run_layer
 -- ---- programs
 
 -- a function's body runs, with no variable yet
-abbrev pub body_of : Function → World → Outcome (Unit {0}) Value
-body_of f w = left (in_turn (map (λ s. run_kind s.kind) (f.body).stmts) ([] ∷ []) (entered (cost f) w))
+abbrev pub body_of : Program → Function → World → Outcome (Unit {0}) Value
+body_of p f w = left (in_turn (map (λ s. run_kind s.kind) (f.body).stmts) ([] ∷ []) (entered (cost p f) w))
 
 -- the function of this name
 abbrev pub function : List ℕ → Program → Option Function
@@ -106,4 +106,4 @@ start m r n = record { memory = m; replies = r; trace = []; fuel = n; active = 0
 
 -- The trace, the end and the deepest calls of function main, on local memory m, with replies r and n units of fuel.
 abbrev pub source : Program → List ℕ → List Replied → ℕ → Seen
-source p m r n = seen (with_value (function (codes "main") p) (start m r n) (λ f. body_of f (start m r n)))
+source p m r n = seen (with_value (function (codes "main") p) (start m r n) (λ f. body_of p f (start m r n)))

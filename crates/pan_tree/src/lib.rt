@@ -1,18 +1,20 @@
-//! The source's trees, and what they weigh and mean (`specs/`).
+//! The source's trees, and what they mean, what they weigh and which rules they keep (`specs/`).
 #![tactic(auto)]
 
 mod level;
 mod program;
+mod rule;
 mod shape;
+mod shapes;
 mod spanned;
 mod syntax;
-mod weighing;
 
 pub use level::Level;
 pub use program::{Exception, Function, Param, Program};
+pub use rule::Rule;
 pub use shape::Shape;
+pub use shapes::{copy_shape, count_words, is_word, same, words};
 pub use spanned::Spanned;
 pub use syntax::{
     Block, BlockOf, Call, CallOf, Expr, ExprKind, Handler, HandlerOf, Stmt, StmtKind, Target,
 };
-pub use weighing::weight;

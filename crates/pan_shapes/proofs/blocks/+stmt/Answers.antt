@@ -9,8 +9,8 @@ use Rattle.pan_tree.specs.declared.shape.Shape.TheVariants as shape
 use Rattle.pan_tree.specs.declared.spanned.Spanned.{Spanned}
 use Rattle.pan_tree.specs.declared.syntax.StmtKind.{StmtKind}
 use Rattle.pan_tree.specs.declared.syntax.ExprKind.{ExprKind}
-use Rattle.pan_shapes.specs.Shapes.{words_of}
-use Rattle.pan_shapes.specs.Check.{State, Scopes, do_kind, do_layer, doing, in_order, block, handle, and_block, declare, or_word, exception_of}
+use Rattle.pan_tree.specs.Shapes.{words_of}
+use Rattle.pan_tree.specs.Check.{State, Scopes, do_kind, do_layer, doing, in_order, block, handle, and_block, declare, or_word, exception_of}
 use Rattle.pan_tree.specs.declared.syntax.StmtKind.TheOpen as stmt
 use Rattle.pan_shapes.specs.Doings.{IsDone, context, state, doings, handler_doings, condition_alone, call_alone}
 use Rattle.pan_shapes.proofs.DoLayers.{do_skip, do_decl, do_assign, do_store_words, do_store_byte, do_if, do_while, do_break, do_continue, do_call, do_return, do_tail_call, do_raise, do_shared_load, do_shared_store, do_foreign}
@@ -249,7 +249,7 @@ check_handler-returns-in_ok-body-in-Some t c =
     let entered : c.declare.new.self ≡ ((h.name, value) ∷ []) ∷ s.scopes =
     c.in_ok-declare-in-Some.ensures ∙ ap (λ (v : Scopes). declare c.as_bytes.result.now c.in_ok-shape-in-Some.shape v) c.in_ok-enter-in-Some.ensures
     ∙ ap (λ x. ((x, c.in_ok-shape-in-Some.shape) ∷ []) ∷ s.scopes) c.as_bytes.ensures ∙ ap (λ z. ((h.name, z) ∷ []) ∷ s.scopes) same in
-    let words : c.words.result ≡ min (words_of value) (2 ^ 64 - 1) = c.words.ensures ∙ ap (λ z. min (words_of z) (2 ^ 64 - 1)) same in
+    let words : c.count_words.result ≡ min (words_of value) (2 ^ 64 - 1) = c.count_words.ensures ∙ ap (λ z. min (words_of z) (2 ^ 64 - 1)) same in
     let after : State = record { scopes = c.leave.new.self; names = (c.check_stmts.new.walk).names } in
     let body : DoneAs (block ((h.name, value) ∷ []) (doings h.body) ctx s) c.in_ok-body-in-Some.body after =
     block_done ((h.name, value) ∷ []) (h.body).stmts c.as_slice.result.now ctx s (state c.check_stmts.new.walk) c.declare.new.self c.leave.new.self c.in_ok-body-in-Some.body entered c.as_slice.ensures c.in_ok-body-in-Some.ensures c.leave.ensures in

@@ -1,5 +1,5 @@
 use Rattle.std.proofs.Common.{◌≡◌, ◌+◌, ◌*◌, ◌-◌, ◌^◌, ◌≤◌, min, map, drop}
-use Rattle.pan_shapes.specs.Check.{in_order, doing}
+use Rattle.pan_tree.specs.Check.{in_order, doing}
 use Rattle.pan_shapes.specs.Doings.{context, state}
 use Rattle.pan_shapes.proofs.blocks.+stmt.Given as goal
 

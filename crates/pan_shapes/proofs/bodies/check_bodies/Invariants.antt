@@ -1,5 +1,5 @@
 use Rattle.std.proofs.Common.{◌≡◌, [], take, drop}
-use Rattle.pan_shapes.specs.Check.{bodies, names_after}
+use Rattle.pan_tree.specs.Check.{bodies, names_after}
 use Rattle.pan_shapes.specs.Weights.{are_weights}
 use Rattle.pan_shapes.proofs.bodies.check_bodies.Given as goal
 

@@ -1,6 +1,6 @@
 use Rattle.std.proofs.Common.{◌≡◌, ◌∷◌, [], false, List, ap, ◌∙◌}
 use Rattle.pan_tree.specs.declared.program.Param.{Param}
-use Rattle.pan_shapes.specs.Check.{Context, State, parameters}
+use Rattle.pan_tree.specs.Check.{Context, State, parameters}
 use Rattle.pan_shapes.specs.Doings.{state}
 use Rattle.pan_shapes.proofs.DoSteps.{block_done}
 use Rattle.pan_shapes.proofs.bodies.check_body.Goals as goal

@@ -1,7 +1,7 @@
 use Rattle.std.proofs.Common.{◌≡◌, ◌∷◌, ◌++◌, ◌-◌, ◌^◌, [], min, not, List, arith, refl, sym, ap, ◌∙◌}
-use Rattle.pan_shapes.specs.declared.rule.Rule.TheVariants.{NoReturn}
+use Rattle.pan_tree.specs.declared.rule.Rule.TheVariants.{NoReturn}
 use Rattle.pan_tree.specs.declared.program.Param.{Param}
-use Rattle.pan_shapes.specs.Check.{body, broken, closes, parameter_words}
+use Rattle.pan_tree.specs.Check.{body, broken, closes, parameter_words}
 use Rattle.pan_shapes.proofs.Answering.{refused}
 use Rattle.pan_shapes.proofs.Inducting.{body_weight}
 use Rattle.pan_shapes.proofs.bodies.check_function.Goals as goal

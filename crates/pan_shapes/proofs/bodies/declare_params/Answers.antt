@@ -1,5 +1,5 @@
 use Rattle.std.proofs.Common.{ap, ◌∙◌}
-use Rattle.pan_shapes.specs.Check.{is_declared, Scopes}
+use Rattle.pan_tree.specs.Check.{is_declared, Scopes}
 use Rattle.pan_shapes.proofs.BodyLemmas.{undeclared}
 use Rattle.pan_shapes.proofs.bodies.declare_params.Goals as goal
 

@@ -1,5 +1,5 @@
 use Rattle.std.proofs.Common.{◌≡◌, [], ◌∷◌, take}
-use Rattle.pan_shapes.specs.Check.{parameters}
+use Rattle.pan_tree.specs.Check.{parameters}
 use Rattle.pan_shapes.proofs.bodies.declare_params.Given as goal
 
 abbrev pub invariant-loop-param : goal.invariant-loop-param

@@ -3,8 +3,8 @@ use Rattle.std.specs.Option.{option_copied}
 use Rattle.pan_tree.specs.declared.spanned.Spanned.{Spanned}
 use Rattle.pan_tree.specs.declared.syntax.ExprKind.{ExprKind}
 use Rattle.pan_tree.specs.declared.program.Function.{Function}
-use Rattle.pan_shapes.specs.Shapes.{words_of}
-use Rattle.pan_shapes.specs.Check.{breaks_of, weights, function_of, result_of, or_word, target_words, after_target}
+use Rattle.pan_tree.specs.Shapes.{words_of}
+use Rattle.pan_tree.specs.Check.{breaks_of, weights, function_of, result_of, or_word, target_words, after_target}
 use Rattle.pan_shapes.specs.declared.judging.Judged.{Judged}
 use Rattle.pan_shapes.specs.Judging.{TellsAll}
 use Rattle.pan_shapes.specs.Arguments.{call_breaks}

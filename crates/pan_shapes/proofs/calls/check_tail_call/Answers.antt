@@ -1,8 +1,8 @@
 use Rattle.std.proofs.Common.{◌≡◌, ◌-◌, ◌^◌, min, sum, [], refl, map, option_map, arith, ◌∙◌, ap}
 use Rattle.std.specs.Option.{option_copied}
 use Rattle.pan_tree.specs.declared.program.Function.{Function}
-use Rattle.pan_shapes.specs.Shapes.{words_of}
-use Rattle.pan_shapes.specs.Check.{breaks_of, weights, function_of, result_of, or_word}
+use Rattle.pan_tree.specs.Shapes.{words_of}
+use Rattle.pan_tree.specs.Check.{breaks_of, weights, function_of, result_of, or_word}
 use Rattle.pan_shapes.specs.declared.judging.Judged.{Judged}
 use Rattle.pan_shapes.specs.Judging.{TellsAll}
 use Rattle.pan_shapes.specs.Arguments.{tail_breaks}

@@ -1,5 +1,5 @@
 use Rattle.std.proofs.Common.{◌≡◌, ◌+◌, ◌<◌, ◌||◌, not, true, false, length, drop, arith, sym, ◌∙◌, ap}
-use Rattle.pan_shapes.specs.Shapes.{same}
+use Rattle.pan_tree.specs.Shapes.{same}
 use Rattle.pan_shapes.specs.Arguments.{differing}
 use Rattle.pan_shapes.proofs.ArgumentLemmas.{differing_step, told_shapes}
 use Rattle.pan_shapes.proofs.calls.differ.Goals as goal

@@ -1,7 +1,7 @@
 use Rattle.std.proofs.Common.{◌≡◌, List, [], codes, sym, ap, subst, ◌∙◌}
 use Rattle.pan_tree.specs.declared.program.Function.{Function}
 use Rattle.pan_tree.specs.declared.program.Program.{Program}
-use Rattle.pan_shapes.specs.Check.{exception_heads, function_heads, main_breaks, function_of, bodies, names_after}
+use Rattle.pan_tree.specs.Check.{exception_heads, function_heads, main_breaks, function_of, bodies, names_after}
 use Rattle.pan_shapes.specs.HeadRules.{heads}
 use Rattle.pan_shapes.specs.Kept.{IsMainAt}
 use Rattle.pan_shapes.specs.Weights.{are_weights}

@@ -3,7 +3,7 @@ use Rattle.std.proofs.lemmas.Bool.Decides.{nat_tests}
 use Rattle.std.specs.Option.{option_map_or}
 use Rattle.pan_tree.specs.declared.spanned.Spanned.{Spanned}
 use Rattle.pan_tree.specs.declared.syntax.StmtKind.{StmtKind}
-use Rattle.pan_shapes.specs.Check.{closes, closes_kind}
+use Rattle.pan_tree.specs.Check.{closes, closes_kind}
 use Rattle.pan_shapes.proofs.ClosingLayers.{last_is}
 use Rattle.pan_shapes.proofs.closing.+closes.Goals as goal
 

@@ -1,5 +1,5 @@
 use Rattle.std.proofs.Common.{◌<◌, ◌≤◌, length, get_or, arith, sym, ap, ◌∙◌}
-use Rattle.pan_shapes.specs.Shapes.{OfWord, NoPart, APart}
+use Rattle.pan_tree.specs.Shapes.{OfWord, NoPart, APart}
 use Rattle.pan_shapes.proofs.FieldLemmas.{next_part, of_word, no_part, among_word, among_words, past_words, among_group, past_group}
 use Rattle.pan_shapes.proofs.fields.part_at.Goals as goal
 use Rattle.pan_shapes.proofs.fields.part_at.Goals.{in-Words+else-index-count, in-Group+else-index-len}

@@ -1,5 +1,5 @@
 use Rattle.std.proofs.Common.{◌≡◌, drop}
-use Rattle.pan_shapes.specs.Shapes.{APart, part_at}
+use Rattle.pan_tree.specs.Shapes.{APart, part_at}
 use Rattle.pan_shapes.proofs.fields.part_at.Given as goal
 
 -- what is left of the path leads on from here

@@ -2,7 +2,7 @@ use Rattle.std.proofs.Common.{◌≡◌, ◌++◌, [], ap, ◌∙◌, drop, take
 use Rattle.std.specs.List.{list_any}
 use Rattle.std.specs.Str.{bytes_eq}
 use Rattle.pan_tree.specs.declared.program.Exception.{Exception}
-use Rattle.pan_shapes.specs.Check.{exception_heads, with_name}
+use Rattle.pan_tree.specs.Check.{exception_heads, with_name}
 use Rattle.pan_shapes.specs.HeadRules.{exception_head}
 use Rattle.pan_shapes.proofs.Answering.{refused}
 use Rattle.pan_shapes.proofs.HeadLemmas.{exception_step, names_more, first_holds}

@@ -1,6 +1,6 @@
 use Rattle.std.proofs.Common.{◌≡◌, [], map, take, drop}
 use Rattle.pan_tree.specs.declared.program.Exception.{Exception}
-use Rattle.pan_shapes.specs.Check.{exception_heads}
+use Rattle.pan_tree.specs.Check.{exception_heads}
 use Rattle.pan_shapes.proofs.heads.exception_names.Given as goal
 
 -- none before breaks a rule

@@ -2,7 +2,7 @@ use Rattle.std.proofs.Common.{◌≡◌, ◌++◌, [], ap, ◌∙◌, drop, take
 use Rattle.std.specs.List.{list_any}
 use Rattle.std.specs.Str.{bytes_eq}
 use Rattle.pan_tree.specs.declared.program.Function.{Function}
-use Rattle.pan_shapes.specs.Check.{function_heads, with_name}
+use Rattle.pan_tree.specs.Check.{function_heads, with_name}
 use Rattle.pan_shapes.specs.HeadRules.{function_head, head_repeats}
 use Rattle.pan_shapes.proofs.Answering.{refused}
 use Rattle.pan_shapes.proofs.HeadLemmas.{function_step, names_more, first_holds, known_holds}

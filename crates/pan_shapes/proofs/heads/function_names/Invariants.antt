@@ -1,6 +1,6 @@
 use Rattle.std.proofs.Common.{◌≡◌, [], map, take, drop}
 use Rattle.pan_tree.specs.declared.program.Function.{Function}
-use Rattle.pan_shapes.specs.Check.{function_heads}
+use Rattle.pan_tree.specs.Check.{function_heads}
 use Rattle.pan_shapes.proofs.heads.function_names.Given as goal
 
 -- none before breaks a rule

@@ -2,7 +2,7 @@ use Rattle.std.proofs.Common.{◌≡◌, false, sym, ap, ◌∙◌}
 use Rattle.std.specs.List.{list_any}
 use Rattle.std.specs.Str.{bytes_eq}
 use Rattle.pan_tree.specs.declared.program.Param.{Param}
-use Rattle.pan_shapes.specs.Check.{with_name}
+use Rattle.pan_tree.specs.Check.{with_name}
 use Rattle.pan_shapes.proofs.HeadLemmas.{twin_found, names_more, still_apart}
 use Rattle.pan_shapes.proofs.heads.has_twins.Goals as goal
 

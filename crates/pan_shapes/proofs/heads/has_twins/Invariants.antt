@@ -1,6 +1,6 @@
 use Rattle.std.proofs.Common.{◌≡◌, false, map, take}
 use Rattle.pan_tree.specs.declared.program.Param.{Param}
-use Rattle.pan_shapes.specs.Check.{repeats}
+use Rattle.pan_tree.specs.Check.{repeats}
 use Rattle.pan_shapes.proofs.heads.has_twins.Given as goal
 
 abbrev pub invariant-loop-param : goal.invariant-loop-param

@@ -1,6 +1,6 @@
 use Rattle.std.proofs.Common.{◌≡◌, ◌-◌, ◌^◌, map, min, sum, take}
 use Rattle.pan_tree.specs.declared.program.Param.{Param}
-use Rattle.pan_shapes.specs.Shapes.{words_of}
+use Rattle.pan_tree.specs.Shapes.{words_of}
 use Rattle.pan_shapes.proofs.heads.words_of_params.Given as goal
 
 abbrev pub invariant-loop-param : goal.invariant-loop-param

@@ -3,7 +3,7 @@ use Rattle.std.proofs.lemmas.List.{append-nil, drop_all}
 use Rattle.pan_base.specs.declared.operators.BinOp.{BinOp}
 use Rattle.pan_tree.specs.declared.spanned.Spanned.{Spanned}
 use Rattle.pan_tree.specs.declared.syntax.ExprKind.{ExprKind}
-use Rattle.pan_shapes.specs.Check.{judge_kind, judged, breaks_of, weights, no_words}
+use Rattle.pan_tree.specs.Check.{judge_kind, judged, breaks_of, weights, has_no_word}
 use Rattle.pan_shapes.specs.Judging.{IsJudged, TellsParts, TellsTerms}
 use Rattle.pan_shapes.proofs.Combining.{handed_on, item_refused, weight_at_end}
 use Rattle.pan_shapes.proofs.ExprLayers.{judge_number, judge_base, judge_biw, struct_is, field_is, load_is, load_byte_is, neg_is, compare_is, chain_is, shift_is}
@@ -228,7 +228,7 @@ judge_terms-returns t c =
     let inv = c.loop-term.invariant in (
       inv.0 ∙ ap (λ ys. breaks_of (map judged_term ys)) none,
       (
-        or_false c.loop-term.no_words ∙ sym (ap (λ ys. c.loop-term.no_words || no_words (map judged_term ys)) none) ∙ inv.1,
+        or_false c.loop-term.has_no_word ∙ sym (ap (λ ys. c.loop-term.has_no_word || has_no_word (map judged_term ys)) none) ∙ inv.1,
         weight_at_end c.loop-term.weight _ inv.3 (sym (ap (λ ys. min (c.loop-term.weight + weights (map judged_term ys)) (2 ^ 64 - 1)) none) ∙ inv.2),
       ),
     )

@@ -1,6 +1,6 @@
 use Rattle.std.proofs.Common.{◌≡◌, ◌≤◌, ◌++◌, ◌+◌, ◌-◌, ◌^◌, ◌*◌, ◌||◌, min, map, drop}
-use Rattle.pan_shapes.specs.Check as check
-use Rattle.pan_shapes.specs.Check.{judged}
+use Rattle.pan_tree.specs.Check as check
+use Rattle.pan_tree.specs.Check.{judged}
 use Rattle.pan_shapes.proofs.judging.+judge.Given as goal
 
 -- no part before breaks a rule, and what is left completes what is done
@@ -18,7 +18,7 @@ invariant-judge_terms-loop-term l =
     let all = map (λ y. judged y.1 l.scopes) l.terms in
     let left = map (λ y. judged y.1 l.scopes) (drop l.term-index l.terms) in
     (check.breaks_of all ≡ check.breaks_of left)
-    × ((l.no_words || check.no_words left) ≡ check.no_words all)
+    × ((l.has_no_word || check.has_no_word left) ≡ check.has_no_word all)
     × (min (l.weight + check.weights left) (2 ^ 64 - 1) ≡ min (check.weights all) (2 ^ 64 - 1))
     × (l.weight ≤ 2 ^ 64 - 1)
 

@@ -1,7 +1,7 @@
 use Rattle.std.proofs.Common.{map}
 use Rattle.pan_tree.specs.declared.spanned.Spanned.{Spanned}
 use Rattle.pan_tree.specs.declared.syntax.ExprKind.{ExprKind}
-use Rattle.pan_shapes.specs.Check.{judged, breaks_of}
+use Rattle.pan_tree.specs.Check.{judged, breaks_of}
 use Rattle.pan_shapes.specs.Judging.{TellsAll}
 use Rattle.pan_shapes.proofs.Combining.{handed_on, item_refused}
 use Rattle.pan_shapes.proofs.judging.judge_all.Goals as goal

@@ -1,6 +1,6 @@
 use Rattle.std.proofs.Common.{◌≡◌, ◌++◌, ◌-◌, ◌^◌, min, map, drop}
-use Rattle.pan_shapes.specs.Check as check
-use Rattle.pan_shapes.specs.Check.{judged}
+use Rattle.pan_tree.specs.Check as check
+use Rattle.pan_tree.specs.Check.{judged}
 use Rattle.pan_shapes.proofs.judging.judge_all.Given as goal
 
 -- no expression before breaks a rule, and what is left completes what is done

@@ -1,5 +1,5 @@
 use Rattle.std.proofs.Common.{◌+◌, ◌-◌, ◌^◌, min, ap, sym, ◌∙◌}
-use Rattle.pan_shapes.specs.Shapes.{words_of}
+use Rattle.pan_tree.specs.Shapes.{words_of}
 use Rattle.pan_shapes.proofs.ExprLayers.{var_known, var_unknown}
 use Rattle.pan_shapes.proofs.judging.judge_var.Goals as goal
 

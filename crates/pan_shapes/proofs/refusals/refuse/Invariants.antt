@@ -1,5 +1,5 @@
 use Rattle.std.proofs.Common.{◌≡◌, drop}
-use Rattle.pan_shapes.specs.Check.{broken}
+use Rattle.pan_tree.specs.Check.{broken}
 use Rattle.pan_shapes.proofs.refusals.refuse.Given as goal
 
 -- none before is broken

@@ -1,5 +1,5 @@
 use Rattle.std.proofs.Common.{[]}
-use Rattle.pan_shapes.specs.Check.{judged}
+use Rattle.pan_tree.specs.Check.{judged}
 use Rattle.pan_shapes.proofs.Answering.{refused, first_part}
 use Rattle.pan_shapes.proofs.statements.check_condition.Goals as goal
 

@@ -1,5 +1,5 @@
 use Rattle.std.proofs.Common.{[], ◌∷◌, refl}
-use Rattle.pan_shapes.specs.Check.{judged, breaks_of}
+use Rattle.pan_tree.specs.Check.{judged, breaks_of}
 use Rattle.pan_shapes.proofs.Answering.{refused}
 use Rattle.pan_shapes.proofs.statements.check_two_words.Goals as goal
 

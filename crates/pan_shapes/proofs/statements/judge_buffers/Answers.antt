@@ -1,6 +1,6 @@
 use Rattle.std.proofs.Common.{[], ◌∷◌}
 use Rattle.std.proofs.lemmas.List.Concat.{flat_map-append}
-use Rattle.pan_shapes.specs.Check.{judged, Judged, breaks_of}
+use Rattle.pan_tree.specs.Check.{judged, Judged, breaks_of}
 use Rattle.pan_shapes.proofs.Answering.{refused}
 use Rattle.pan_shapes.proofs.statements.judge_buffers.Goals as goal
 

@@ -1,5 +1,5 @@
 use Rattle.std.proofs.Common.{[], ◌++◌, refl}
-use Rattle.pan_shapes.specs.Check.{judged}
+use Rattle.pan_tree.specs.Check.{judged}
 use Rattle.pan_shapes.proofs.Answering.{refused}
 use Rattle.pan_shapes.proofs.statements.judge_two.Goals as goal
 

@@ -1,6 +1,6 @@
 use Rattle.std.proofs.Common.{◌≡◌, ◌∷◌, ◌++◌, ◌-◌, ◌^◌, [], min, sum, nat_lt, arith, refl, sym, ap, ◌∙◌}
-use Rattle.pan_shapes.specs.declared.rule.Rule.TheVariants.{ProgramTooHeavy}
-use Rattle.pan_shapes.specs.Check.{broken, program_weight, function_weight}
+use Rattle.pan_tree.specs.declared.rule.Rule.TheVariants.{ProgramTooHeavy}
+use Rattle.pan_tree.specs.Check.{broken, program_weight, function_weight}
 use Rattle.pan_shapes.specs.Weights.{heavy_functions}
 use Rattle.pan_shapes.proofs.Answering.{refused, refused_alone, one_holds}
 use Rattle.pan_shapes.proofs.Sums.{cut_sum, heavier, light_is}

@@ -1,6 +1,6 @@
 use Rattle.std.proofs.Common.{List, Some, None, sym, ap, ◌∙◌, get_or}
 use Rattle.pan_tree.specs.declared.program.Exception.{Exception}
-use Rattle.pan_shapes.specs.Check.{exception_of}
+use Rattle.pan_tree.specs.Check.{exception_of}
 use Rattle.pan_shapes.proofs.HeadLemmas.{find_named, standing_at, stands_within}
 use Rattle.pan_shapes.proofs.heads.Heads.exception.Goals as goal
 

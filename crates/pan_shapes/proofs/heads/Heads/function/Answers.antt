@@ -1,6 +1,6 @@
 use Rattle.std.proofs.Common.{List, Some, None, sym, ap, ◌∙◌, get_or}
 use Rattle.pan_tree.specs.declared.program.Function.{Function}
-use Rattle.pan_shapes.specs.Check.{function_of}
+use Rattle.pan_tree.specs.Check.{function_of}
 use Rattle.pan_shapes.proofs.HeadLemmas.{find_named, standing_at, stands_within}
 use Rattle.pan_shapes.proofs.heads.Heads.function.Goals as goal
 

@@ -2,7 +2,7 @@ use Rattle.std.proofs.Common.{◌≡◌, ℕ, List, position, Option, Some, None
 use Rattle.std.specs.Str.{bytes_eq}
 use Rattle.pan_tree.specs.declared.program.Function.{Function}
 use Rattle.pan_tree.specs.declared.program.Program.{Program}
-use Rattle.pan_shapes.specs.Check.{function_of}
+use Rattle.pan_tree.specs.Check.{function_of}
 use Rattle.pan_shapes.proofs.HeadLemmas.{find_named, stands_within}
 use Rattle.pan_shapes.proofs.heads.Heads.function_index.Goals as goal
 

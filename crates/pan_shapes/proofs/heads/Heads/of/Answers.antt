@@ -1,7 +1,7 @@
 use Rattle.std.proofs.Common.{◌++◌, List, [], sym, ap}
 use Rattle.pan_tree.specs.declared.program.Exception.{Exception}
 use Rattle.pan_tree.specs.declared.program.Function.{Function}
-use Rattle.pan_shapes.specs.Check.{exception_heads, function_heads}
+use Rattle.pan_tree.specs.Check.{exception_heads, function_heads}
 use Rattle.pan_shapes.proofs.Answering.{refused}
 use Rattle.pan_shapes.proofs.heads.Heads.of.Goals as goal
 

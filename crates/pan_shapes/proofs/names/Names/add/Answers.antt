@@ -1,5 +1,5 @@
 use Rattle.std.proofs.Common.{ap, ◌∙◌}
-use Rattle.pan_shapes.specs.Check.{with_name}
+use Rattle.pan_tree.specs.Check.{with_name}
 use Rattle.pan_shapes.proofs.NameLemmas.{now_of, add_now}
 use Rattle.pan_shapes.proofs.names.Names.add.Goals as goal
 

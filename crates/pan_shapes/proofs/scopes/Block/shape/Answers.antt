@@ -1,5 +1,5 @@
 use Rattle.std.proofs.Common.{ap, ◌∙◌}
-use Rattle.pan_shapes.specs.Check.{in_scope}
+use Rattle.pan_tree.specs.Check.{in_scope}
 use Rattle.pan_shapes.proofs.Scoping.{in_scope_seen}
 use Rattle.pan_shapes.proofs.scopes.Block.shape.Goals as goal
 

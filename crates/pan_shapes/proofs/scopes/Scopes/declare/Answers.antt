@@ -1,5 +1,5 @@
 use Rattle.std.proofs.Common.{◌≡◌, ◌+◌, ◌-◌, ◌≤◌, length, arith, vec_len, reverse, ap, ◌∙◌}
-use Rattle.pan_shapes.specs.Check as check
+use Rattle.pan_tree.specs.Check as check
 use Rattle.pan_shapes.proofs.Scoping.{declared_last, declared_nowhere, on_ok_as, ok_as}
 use Rattle.pan_shapes.proofs.scopes.Scopes.declare.Goals as goal
 use Rattle.pan_shapes.proofs.scopes.Scopes.declare.Goals.{in-Some, in-None+in-Group-1, in-None+in-Word-1}

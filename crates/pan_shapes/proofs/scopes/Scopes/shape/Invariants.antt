@@ -1,5 +1,5 @@
 use Rattle.std.proofs.Common.{◌≡◌, ◌≤◌, length, take, reverse}
-use Rattle.pan_shapes.specs.Check.{shape_of}
+use Rattle.pan_tree.specs.Check.{shape_of}
 use Rattle.pan_shapes.proofs.scopes.Scopes.shape.Given as goal
 
 -- the blocks that were looked through have no such variable

@@ -1,6 +1,6 @@
-use Rattle.std.proofs.Common.{◌≡◌, map, drop, length}
-use Rattle.pan_shapes.specs.Shapes.{holds_each, same}
-use Rattle.pan_shapes.proofs.shapes.+same.Given as goal
+use Rattle.std.proofs.Common.{◌≡◌, map, drop}
+use Rattle.pan_tree.specs.Shapes.{holds_each, same}
+use Rattle.pan_tree.proofs.shapes.+same.Given as goal
 
 -- what is left decides the whole
 abbrev pub invariant-same_each-loop-i : goal.invariant-same_each-loop-i

@@ -4,12 +4,10 @@ use Rattle.std.specs.Prelude.{◌≡◌, ℕ, ◌+◌, ◌*◌, nat_lt, nat_eq, 
 use Rattle.std.specs.List.{list_any, list_all}
 use Rattle.std.specs.Option.{option_map_or, is_some}
 use Rattle.std.specs.Str.{bytes_eq}
-use Rattle.pan_base.specs.declared.operators.BinOp.{BinOp}
-use Rattle.pan_base.specs.declared.operators.ShOp.{ShOp}
 use Rattle.pan_base.specs.Names.{is_spelled}
-use Rattle.pan_shapes.specs.Shapes.{words_of, Part, APart, OfWord, NoPart, part_at, is_word, same}
-use Rattle.pan_shapes.specs.declared.rule.Rule.{Rule}
-use Rattle.pan_shapes.specs.declared.rule.Rule.TheVariants.{TwoNames, NoMain, MainShape, UnknownName, UnknownFunction, UnknownException, WrongShape, WrongCount, NotStruct, NoField, NotWord, BadShift, LoopOutside, NoReturn, ShapeTooWide, TooMany, FunctionTooHeavy, ProgramTooHeavy}
+use Rattle.pan_tree.specs.Shapes.{words_of, Part, APart, OfWord, NoPart, part_at, is_word, same}
+use Rattle.pan_tree.specs.declared.rule.Rule.{Rule}
+use Rattle.pan_tree.specs.declared.rule.Rule.TheVariants.{TwoNames, NoMain, MainShape, UnknownName, UnknownFunction, UnknownException, WrongShape, WrongCount, NotStruct, NoField, NotWord, BadShift, LoopOutside, NoReturn, ShapeTooWide, TooMany, FunctionTooHeavy, ProgramTooHeavy}
 use Rattle.pan_tree.specs.declared.shape.Shape.{Shape}
 use Rattle.pan_tree.specs.declared.shape.Shape.TheVariants as shape
 use Rattle.pan_tree.specs.declared.spanned.Spanned.{Spanned}
@@ -103,8 +101,8 @@ abbrev pub breaks_of : List Judged → List Break
 breaks_of js = flat_map (λ j. j.breaks) js
 
 -- some of these are no word
-abbrev pub no_words : List Judged → Bool
-no_words js = list_any (λ j. not (is_word j.shape)) js
+abbrev pub has_no_word : List Judged → Bool
+has_no_word js = list_any (λ j. not (is_word j.shape)) js
 
 -- an expression of one value, with its parts and its own rules: it weighs 1, its words and its parts
 abbrev pub whole : ℕ → Shape → List Judged → List (Rule × Bool) → Judged
@@ -139,16 +137,16 @@ judge_layer (expr.Field x is) place v =
     let j = judge x v in
     let part = part_at (APart j.shape) is in
     whole place (part_shape part) (j ∷ []) ((NotStruct, is_of_word part) ∷ (NoField, is_no_part part) ∷ [])
-judge_layer (expr.Load s a) place v = let parts = judge a v ∷ [] in whole place s parts ((NotWord, no_words parts) ∷ (ShapeTooWide, is_wide s) ∷ [])
-judge_layer (expr.LoadByte a) place v = let parts = judge a v ∷ [] in whole place shape.Word parts ((NotWord, no_words parts) ∷ [])
-judge_layer (expr.Neg x) place v = let parts = judge x v ∷ [] in whole place shape.Word parts ((NotWord, no_words parts) ∷ [])
-judge_layer (expr.Compare o x y) place v = let parts = judge x v ∷ judge y v ∷ [] in whole place shape.Word parts ((NotWord, no_words parts) ∷ [])
+judge_layer (expr.Load s a) place v = let parts = judge a v ∷ [] in whole place s parts ((NotWord, has_no_word parts) ∷ (ShapeTooWide, is_wide s) ∷ [])
+judge_layer (expr.LoadByte a) place v = let parts = judge a v ∷ [] in whole place shape.Word parts ((NotWord, has_no_word parts) ∷ [])
+judge_layer (expr.Neg x) place v = let parts = judge x v ∷ [] in whole place shape.Word parts ((NotWord, has_no_word parts) ∷ [])
+judge_layer (expr.Compare o x y) place v = let parts = judge x v ∷ judge y v ∷ [] in whole place shape.Word parts ((NotWord, has_no_word parts) ∷ [])
 judge_layer (expr.Chain x ys) place v =
     let parts = judge x v ∷ map (λ y. judge y.1 v) ys in
-    operators place (length ys) parts ((NotWord, no_words parts) ∷ [])
+    operators place (length ys) parts ((NotWord, has_no_word parts) ∷ [])
 judge_layer (expr.Shift x ns) place v =
     let parts = judge x v ∷ [] in
-    operators place (length ns) parts ((NotWord, no_words parts) ∷ (BadShift, list_any (λ n. nat_lt 63 n.1) ns) ∷ [])
+    operators place (length ns) parts ((NotWord, has_no_word parts) ∷ (BadShift, list_any (λ n. nat_lt 63 n.1) ns) ∷ [])
 
 unfoldable pub judge_kind : ExprKind → Judging
 judge_kind = fold-ExprKind Judging judge_layer
@@ -285,13 +283,13 @@ do_layer (stmt.Assign x e) c place s =
 do_layer (stmt.StoreWords a e) c place s =
     let address = judged a s.scopes in
     plain place 0 (address ∷ judged e s.scopes ∷ []) ((NotWord, not (is_word address.shape)) ∷ []) s
-do_layer (stmt.StoreByte a e) c place s = let parts = judged a s.scopes ∷ judged e s.scopes ∷ [] in plain place 0 parts ((NotWord, no_words parts) ∷ []) s
+do_layer (stmt.StoreByte a e) c place s = let parts = judged a s.scopes ∷ judged e s.scopes ∷ [] in plain place 0 parts ((NotWord, has_no_word parts) ∷ []) s
 do_layer (stmt.If e first second) c place s =
     let parts = judged e s.scopes ∷ [] in
-    and_block (and_block (plain place 0 parts ((NotWord, no_words parts) ∷ []) s) (block [] first c)) (block [] second c)
+    and_block (and_block (plain place 0 parts ((NotWord, has_no_word parts) ∷ []) s) (block [] first c)) (block [] second c)
 do_layer (stmt.While e body) c place s =
     let parts = judged e s.scopes ∷ [] in
-    and_block (plain place 0 parts ((NotWord, no_words parts) ∷ []) s) (block [] body (record c { in_loop = true }))
+    and_block (plain place 0 parts ((NotWord, has_no_word parts) ∷ []) s) (block [] body (record c { in_loop = true }))
 do_layer stmt.Break c place s = plain place 0 [] ((LoopOutside, not c.in_loop) ∷ []) s
 do_layer stmt.Continue c place s = plain place 0 [] ((LoopOutside, not c.in_loop) ∷ []) s
 do_layer (stmt.Call call) c place s =
@@ -317,11 +315,11 @@ do_layer (stmt.Raise i e) c place s =
 do_layer (stmt.SharedLoad size x a) c place s =
     let parts = judged a s.scopes ∷ [] in
     let known = shape_of x s.scopes in
-    plain place (words_of (or_word known)) parts ((UnknownName, no_value known) ∷ (WrongShape, not (is_word (or_word known))) ∷ (NotWord, no_words parts) ∷ []) s
-do_layer (stmt.SharedStore size a e) c place s = let parts = judged a s.scopes ∷ judged e s.scopes ∷ [] in plain place 0 parts ((NotWord, no_words parts) ∷ []) s
+    plain place (words_of (or_word known)) parts ((UnknownName, no_value known) ∷ (WrongShape, not (is_word (or_word known))) ∷ (NotWord, has_no_word parts) ∷ []) s
+do_layer (stmt.SharedStore size a e) c place s = let parts = judged a s.scopes ∷ judged e s.scopes ∷ [] in plain place 0 parts ((NotWord, has_no_word parts) ∷ []) s
 do_layer (stmt.Foreign x a b d e) c place s =
     let parts = map (λ y. judged y s.scopes) (a ∷ b ∷ d ∷ e ∷ []) in
-    plain place 0 parts ((NotWord, no_words parts) ∷ (TooMany, is_too_many x s.names) ∷ []) (record s { names = with_name x s.names })
+    plain place 0 parts ((NotWord, has_no_word parts) ∷ (TooMany, is_too_many x s.names) ∷ []) (record s { names = with_name x s.names })
 
 unfoldable pub do_kind : StmtKind → Doing
 do_kind = fold-StmtKind Doing do_layer

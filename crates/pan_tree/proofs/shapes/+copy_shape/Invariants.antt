@@ -1,5 +1,5 @@
 use Rattle.std.proofs.Common.{◌≡◌, take}
-use Rattle.pan_shapes.proofs.shapes.+copy_shape.Given as goal
+use Rattle.pan_tree.proofs.shapes.+copy_shape.Given as goal
 
 abbrev pub invariant-copy_shapes-loop-i : goal.invariant-copy_shapes-loop-i
 invariant-copy_shapes-loop-i l = l.all ≡ take l.i l.shapes

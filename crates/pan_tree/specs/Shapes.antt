@@ -1,5 +1,5 @@
 -- Shapes of values.
-use Rattle.std.specs.Prelude.{ℕ, ◌&&◌, Bool, true, false, List, [], ◌∷◌, map, sum, replicate, slice_get, Option, Some, None}
+use Rattle.std.specs.Prelude.{ℕ, ◌&&◌, Bool, true, false, List, [], ◌∷◌, sum, replicate, slice_get, Option, Some, None}
 use Rattle.pan_tree.specs.declared.shape.Shape.{Shape, Shape-F, fold-Shape, out-Shape}
 use Rattle.pan_tree.specs.declared.shape.Shape.TheOpen as open_shape
 use Rattle.pan_tree.specs.declared.shape.Shape.TheVariants as shape

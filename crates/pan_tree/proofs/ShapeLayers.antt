@@ -1,11 +1,11 @@
 -- What the check asks of shapes, at each variant.
-use Rattle.std.proofs.Common.{◌≡◌, ◌≢◌, ℕ, zero, suc, Bool, true, false, ◌&&◌, nat_eq, List, [], ◌∷◌, map, sum, length, replicate, Option, Some, None, refl, sym, ap, subst, ◌∙◌}
+use Rattle.std.proofs.Common.{◌≡◌, ◌≢◌, ℕ, zero, suc, Bool, true, false, ◌&&◌, nat_eq, List, [], ◌∷◌, map, sum, length, replicate, Some, None, refl, sym, ap, subst, ◌∙◌}
 use Rattle.std.proofs.Math.Dec.{eqb-zero-suc, eqb-suc-zero, eqb-suc-suc}
 use Rattle.std.specs.List.{list_all}
 use Rattle.pan_tree.specs.declared.shape.Shape.{Shape, Shape-F, fold-roll-Shape, roll-Shape, out-Shape, out-roll-Shape, roll-out-Shape, map-Shape}
 use Rattle.pan_tree.specs.declared.shape.Shape.TheOpen as open_shape
 use Rattle.pan_tree.specs.declared.shape.Shape.TheVariants as shape
-use Rattle.pan_shapes.specs.Shapes.{words_layer, words_of, parts_layer, parts_of, holds_each, is_none, some_hold, is_word, same_layer, same}
+use Rattle.pan_tree.specs.Shapes.{words_layer, words_of, parts_layer, parts_of, holds_each, is_none, some_hold, is_word, same_layer, same}
 
 words_roll : (x : Shape-F Shape) → words_of (roll-Shape x) ≡ words_layer (map-Shape Shape ℕ words_of x)
 unfolding words_of

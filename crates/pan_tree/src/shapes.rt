@@ -1,16 +1,19 @@
-//! What the check asks of shapes.
+//! What is asked of shapes: how many words they have, and whether two are the same.
 
 ghost use Rattle.std.specs.Prelude.{◌≡◌, ◌-◌, ◌^◌, ◌&&◌, nat_eq, length, map, min, IfOk};
 ghost use Rattle.std.specs.List.{list_all};
-ghost use Rattle.pan_shapes.specs.Shapes.{words_of, is_word, holds_each, same};
+ghost use Rattle.pan_tree.specs.Shapes.{words_of, is_word, holds_each, same};
 
+use crate::shape::Shape;
 use pan_base::{List, NoMemory};
-use pan_tree::Shape;
 use std::alloc::Global;
+
+/// The number of words that stands for each greater one: no shape of a program that passes the check has so many.
+const TOO_MANY_WORDS: u64 = 65;
 
 /// The number of words of a value of the shape, or 2^64 - 1 where that is less.
 #[tactic(auto, using(crate::proofs::ShapeLayers::words_rules))]
-pub fn words(shape: &Shape) -> u64
+pub fn count_words(shape: &Shape) -> u64
     ensures { result ≡ min (words_of shape.now) (2 ^ 64 - 1) }
 {
     match shape {
@@ -19,11 +22,18 @@ pub fn words(shape: &Shape) -> u64
         Shape::Group(parts) => {
             let mut total: u64 = 0;
             for part in parts.as_slice() {
-                total = total.saturating_add(words(part));
+                total = total.saturating_add(count_words(part));
             }
             total
         }
     }
+}
+
+/// The number of words of a value of the shape, or 65 where that is less.
+pub fn words(shape: &Shape) -> u64
+    ensures { result ≡ min (words_of shape.now) 65 }
+{
+    count_words(shape).min(TOO_MANY_WORDS)
 }
 
 /// Whether the shape is one word, and no struct.

@@ -1,6 +1,6 @@
 use Rattle.std.proofs.lemmas.List.{take_all}
-use Rattle.pan_tree.proofs.Weights.{words_group}
-use Rattle.pan_tree.proofs.weighing.+words.Goals as goal
+use Rattle.pan_tree.proofs.ShapeLayers.{words_group}
+use Rattle.pan_tree.proofs.shapes.+count_words.Goals as goal
 
 pub returns-after-loop-part : goal.returns-after-loop-part
 returns-after-loop-part t c =
