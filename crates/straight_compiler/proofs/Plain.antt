@@ -27,7 +27,7 @@ plain_stores : (ss : List (Spanned StmtKind)) → All Stores ss → All Plain ss
 unfolding Stores
 plain_stores ss all k d small = inl (all k d small)
 
-plain_body : (stmts : List (Spanned StmtKind)) → IsBody stmts → All Plain stmts
+pub plain_body : (stmts : List (Spanned StmtKind)) → IsBody stmts → All Plain stmts
 unfolding Stores
 plain_body stmts (ss, last, is, stores, return) = subst (All Plain) (sym is) (All-append Plain ss (last ∷ []) (plain_stores ss stores) (All-cons Plain last [] (inr return) (All-nil Plain)))
 
