@@ -1,6 +1,6 @@
 -- A straight-line program whose main function is light breaks no rule.
-use Rattle.std.proofs.Common.{◌≡◌, ℕ, ◌+◌, ◌*◌, ◌≤◌, refl, sym, ap, ◌∙◌, subst, Bool, true, false, not, ◌||◌, nat_lt, List, [], ◌∷◌, ◌++◌, length, map, sum, Option, Some, arith, inl, inr}
-use Rattle.std.specs.Prelude.{codes, flat_map}
+use Rattle.std.proofs.Common.{◌≡◌, ℕ, ◌+◌, ◌≤◌, refl, sym, ap, ◌∙◌, subst, Bool, true, false, not, ◌||◌, nat_lt, List, [], ◌∷◌, ◌++◌, length, map, Option, Some, arith, inl, inr}
+use Rattle.std.specs.Prelude.{codes}
 use Rattle.std.specs.List.{All}
 use Rattle.std.specs.Option.{option_map_or}
 use Rattle.std.proofs.lemmas.Bool.{le-ltb}
@@ -11,9 +11,7 @@ use Rattle.pan_base.specs.declared.operators.BinOp.{BinOp}
 use Rattle.pan_base.specs.declared.operators.BinOp.TheVariants.{Add}
 use Rattle.pan_base.specs.declared.span.Span.{Span}
 use Rattle.pan_base.specs.declared.events.Size.TheVariants.{B8}
-use Rattle.pan_tree.specs.declared.rule.Rule.{Rule}
-use Rattle.pan_tree.specs.declared.rule.Rule.TheVariants.{TwoNames, MainShape, WrongShape, NotWord, NoReturn, ShapeTooWide, TooMany, FunctionTooHeavy, ProgramTooHeavy}
-use Rattle.pan_tree.specs.declared.shape.Shape.{Shape}
+use Rattle.pan_tree.specs.declared.rule.Rule.TheVariants.{MainShape, WrongShape, NotWord, NoReturn, ShapeTooWide, TooMany, FunctionTooHeavy, ProgramTooHeavy}
 use Rattle.pan_tree.specs.declared.shape.Shape.TheVariants as shape
 use Rattle.pan_tree.specs.declared.spanned.Spanned.{Spanned}
 use Rattle.pan_tree.specs.declared.syntax.ExprKind.{ExprKind, ExprKind-F, roll-ExprKind, map-ExprKind, fold-roll-ExprKind}
@@ -26,9 +24,9 @@ use Rattle.pan_tree.specs.declared.syntax.BlockOf.{BlockOf}
 use Rattle.pan_tree.specs.declared.program.Function.{Function}
 use Rattle.pan_tree.specs.declared.program.Program.{Program}
 use Rattle.pan_tree.specs.Shapes.{words_of, is_word, same}
-use Rattle.pan_tree.specs.Check.{Break, Scopes, Judged, Judging, Context, State, Doing, broken, judge, judge_layer, judge_kind, judged, breaks_of, has_no_word, weights, whole, operators, plain, doing, do_kind, in_order, last_of, closes_layer, closes_kind, closes, body, parameters, parameter_words, is_wide, function_weight, program_weight, function_of, exception_heads, function_heads, main_breaks, bodies, weight_breaks, breaks, IsWellShaped}
+use Rattle.pan_tree.specs.Check.{Scopes, Judged, Judging, Context, State, Doing, broken, judge, judge_layer, judge_kind, judged, breaks_of, has_no_word, whole, operators, doing, do_kind, in_order, last_of, closes_layer, closes_kind, closes, body, parameters, parameter_words, function_weight, function_of, function_heads, main_breaks, bodies, weight_breaks, IsWellShaped}
 use Rattle.pan_tree.proofs.ShapeLayers.{words_word, is_word_word, same_word}
-use Rattle.straight_form.specs.Form.{IsNumber, AreTerms, IsSum, IsStore, IsReturn, IsBody, IsStraight}
+use Rattle.straight_form.specs.Form.{IsNumber, AreTerms, IsSum, IsBody, IsStraight}
 use Rattle.straight_compiler.specs.Performs.{IsPlain}
 use Rattle.straight_compiler.proofs.Plain.{plain_body}
 use Rattle.straight_compiler.proofs.Weights.{do_return, do_store}
@@ -41,6 +39,9 @@ judge_roll x = fold-roll-ExprKind Judging judge_layer x
 
 pub judge_number : (n place : ℕ) (v : Scopes) → judge_kind (e.Number n) place v ≡ whole place shape.Word [] []
 judge_number n place v = ap (λ k. judge_kind k place v) (sym (e.rolls-Number n)) ∙ ap (λ (f : Judging). f place v) (judge_roll (expr.Number n))
+
+pub number_weight : (n place : ℕ) (v : Scopes) → (judge_kind (e.Number n) place v).weight ≡ 2
+number_weight n place v = ap (λ j. j.weight) (judge_number n place v) ∙ ap (λ n. 1 + n + 0) words_word
 
 abbrev chain_of : ℕ → ℕ → List Judged → Judged
 chain_of place count parts = operators place count parts ((NotWord, has_no_word parts) ∷ [])
@@ -193,3 +194,18 @@ well_shaped p (main, none, one, is) light =
     let program_is : alone (main_with main.body main.span) ≡ p = ap alone main_is ∙ (λ i. record { exceptions = sym none i; functions = sym one i }) in
     let same_weight : function_weight (alone (main_with main.body main.span)) (main_with main.body main.span) ≡ function_weight p main = λ i. function_weight (program_is i) (main_is i) in
     subst IsWellShaped program_is (alone_keeps main.body main.span is.body (omega (arith, same_weight)))
+
+only_same : (xs ys : List (Spanned StmtKind)) → xs ∷ [] ≡ ys ∷ [] → xs ≡ ys
+only_same xs ys is = cc
+
+-- the same, where the weight of the statements has a bound
+pub well_shaped_below : (p : Program) → IsStraight p → (stmts : List (Spanned StmtKind)) (most : ℕ) → map (λ (f : Function). (f.body).stmts) p.functions ≡ stmts ∷ []
+    → ((c : Context) (t : State) → (in_order (map doing stmts) c t).weight ≤ most) → most + 5 ≤ 16384 → IsWellShaped p
+well_shaped_below p (main, none, one, is) stmts most body light few =
+    let same : (main.body).stmts ≡ stmts = only_same (main.body).stmts stmts (sym (ap (map (λ (f : Function). (f.body).stmts)) one) ∙ body) in
+    let c : Context = record { program = p; result = main.result; in_loop = false } in
+    let t : State = record { scopes = parameters main.params ∷ []; names = [] } in
+    let below : (in_order (map doing (main.body).stmts) c t).weight ≤ most = subst (λ ss. (in_order (map doing ss) c t).weight ≤ most) (sym same) (light c t) in
+    let params : parameter_words main.params ≡ 0 = ap parameter_words is.params in
+    let result : words_of main.result ≡ 1 = ap words_of is.shape ∙ words_word in
+    well_shaped p (main, none, one, is) (omega arith)

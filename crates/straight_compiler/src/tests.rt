@@ -46,7 +46,7 @@ const CONSTANTS: [(u64, &[u32]); 6] = [
 
 /// The expression of this number.
 fn number(number: u64) -> Expr
-    ensures weight { (v : Scopes) → (judged result v).weight ≡ 2 }
+    ensures { (v : Scopes) → (judged result v).weight ≡ 2 }
 {
     Spanned {
         kind: ExprKind::Number(number),
@@ -56,7 +56,7 @@ fn number(number: u64) -> Expr
 
 /// `first + second + third`
 fn sum(alloc: Global, first: u64, second: u64, third: u64) -> Result<Expr, NoMemory>
-    ensures weight { IfOk result (λ e. (v : Scopes) → (judged e v).weight ≡ 10) }
+    ensures { IfOk result (λ e. (v : Scopes) → (judged e v).weight ≡ 10) }
 {
     let mut terms = single(alloc, (BinOp::Add, number(second)))?;
     terms.push((BinOp::Add, number(third)))?;
@@ -69,7 +69,7 @@ fn sum(alloc: Global, first: u64, second: u64, third: u64) -> Result<Expr, NoMem
 
 /// `return value;`
 fn returning(value: Expr) -> Stmt
-    ensures weight { (c : Context) (place : ℕ) (t : State) →
+    ensures { (c : Context) (place : ℕ) (t : State) →
         (do_kind result.kind c place t).weight ≡ 4 + (judged value t.scopes).weight }
 {
     Spanned {
@@ -80,7 +80,7 @@ fn returning(value: Expr) -> Stmt
 
 /// `!st64 address, value;`
 fn storing(address: u64, value: u64) -> Stmt
-    ensures weight { (c : Context) (place : ℕ) (t : State) →
+    ensures { (c : Context) (place : ℕ) (t : State) →
         (do_kind result.kind c place t).weight ≡ 8 }
 {
     Spanned {
@@ -106,9 +106,9 @@ fn program(alloc: Global, stmts: List<Stmt>) -> Result<Program, NoMemory>
     })
 }
 
-/// The image of the program whose main function has these statements.
+/// The image of the program whose main function has these statements, which are light.
 fn image(alloc: Global, stmts: List<Stmt>) -> Result<Blob, Fail>
-    requires light { (c : Context) (t : State) → (in_order (map doing stmts) c t).weight ≤ 64 }
+    requires { (c : Context) (t : State) → (in_order (map doing stmts) c t).weight ≤ 64 }
 {
     let program = program(alloc, stmts)?;
     if !is_straight(&program) {
