@@ -1,3 +1,4 @@
+pub mod Scopes
 pub mod Shapes
 pub mod Check
 pub mod Value
