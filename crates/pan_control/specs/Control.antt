@@ -1,7 +1,7 @@
 -- What control structure means, for a language with variables V, whose functions return and raise an X.
-use Rattle.std.specs.Prelude.{ℕ, List, [], ◌∷◌, ◌++◌, Option, Some, None, Bool, true, false}
-use Rattle.pan_base.specs.Events.{Asked, Replied, Ending, Fails, Asks, Stopped, fits}
-use Rattle.pan_control.specs.World.{World}
+use Rattle.std.specs.Prelude.{ℕ, zero, suc, List, [], ◌∷◌, ◌++◌, Option, Some, None, Bool, true, false}
+use Rattle.pan_base.specs.Events.{Asked, Replied, Ending, Fails, Spent, Asks, Stopped, fits}
+use Rattle.pan_control.specs.World.{World, leaving, back_in}
 
 -- how a statement ends
 pub data Outcome (V X : Type 0) : Type 0 where
@@ -15,6 +15,10 @@ pub data Outcome (V X : Type 0) : Type 0 where
 -- what a statement does: from the variables and the world to how it ends
 abbrev pub Meaning : Type 0 → Type 0 → Type 0
 Meaning V X = V → World → Outcome V X
+
+-- how a function leaves, by its number and its arguments A; nothing is left of its variables
+abbrev pub Callee : Type 0 → Type 0 → Type 0
+Callee A X = ℕ → A → World → Outcome (Unit {0}) X
 
 -- goes on after a normal end
 abbrev pub and_then : {V X : Type 0} → Outcome V X → Meaning V X → Outcome V X
@@ -40,6 +44,20 @@ abbrev pub where_true : {V X : Type 0} → Bool → World → Outcome V X → Ou
 where_true false w o = Over Fails w
 where_true true w o = o
 
+-- the first unless the number is 0
+abbrev pub if_not_zero : {A : Type 0} → ℕ → A → A → A
+if_not_zero zero a b = b
+if_not_zero (suc n) a b = a
+
+-- takes one of this many units of fuel
+abbrev pub spend_of : {V X : Type 0} → ℕ → World → (World → Outcome V X) → Outcome V X
+spend_of zero w go = Over Spent w
+spend_of (suc n) w go = go (record w { fuel = n })
+
+-- takes one unit of the fuel that is left
+abbrev pub spend : {V X : Type 0} → World → (World → Outcome V X) → Outcome V X
+spend w go = spend_of w.fuel w go
+
 -- goes on with this reply where it fits, else stops
 abbrev pub ask_fit : {V X : Type 0} → Bool → Asked → Replied → World → List Replied → (Replied → World → Outcome V X) → Outcome V X
 ask_fit false q r w rs go = Over (Stopped q) w
@@ -62,6 +80,55 @@ left (Continued v w) = Over Fails w
 left (Returned x w) = Returned x w
 left (Raised i x w) = Raised i x w
 left (Over e w) = Over e w
+
+-- what is left of the variables, where a statement goes on
+abbrev pub on_variables : {V U X : Type 0} → (V → U) → Outcome V X → Outcome U X
+on_variables f (Normal v w) = Normal (f v) w
+on_variables f (Broken v w) = Broken (f v) w
+on_variables f (Continued v w) = Continued (f v) w
+on_variables f (Returned x w) = Returned x w
+on_variables f (Raised i x w) = Raised i x w
+on_variables f (Over e w) = Over e w
+
+-- ---- loops
+
+-- after a loop's body
+abbrev pub after_body : {V X : Type 0} → Outcome V X → Meaning V X → Outcome V X
+after_body (Normal v w) again = again v w
+after_body (Broken v w) again = Normal v w
+after_body (Continued v w) again = again v w
+after_body (Returned x w) again = Returned x w
+after_body (Raised i x w) again = Raised i x w
+after_body (Over e w) again = Over e w
+
+-- A test of a loop, and where it isn't 0 a turn, which takes a unit. Before the test stands what computes it.
+abbrev pub turn : {V X : Type 0} → Meaning V X → (V → World → Option ℕ) → Meaning V X → Meaning V X → Meaning V X
+turn before test body again v w =
+    and_then (before v w) (λ v w. with_value (test v w) w (λ n. if_not_zero n (spend w (λ w. after_body (body v w) again)) (Normal v w)))
+
+-- No loop makes more turns than there is fuel: the number bounds both.
+abbrev pub turns : {V X : Type 0} → ℕ → Meaning V X → (V → World → Option ℕ) → Meaning V X → Meaning V X
+turns zero before test body = turn before test body (λ v w. Over Spent w)
+turns (suc d) before test body = turn before test body (turns d before test body)
+
+-- ---- calls
+
+-- what a call leaves to its caller: what was returned, or an exception
+abbrev pub after_call : {V X : Type 0} → World → Outcome (Unit {0}) X → (X → World → Outcome V X) → (ℕ → X → World → Outcome V X) → Outcome V X
+after_call caller (Normal v w) gave threw = Over Fails w
+after_call caller (Broken v w) gave threw = Over Fails w
+after_call caller (Continued v w) gave threw = Over Fails w
+after_call caller (Returned x w) gave threw = gave x (back_in caller w)
+after_call caller (Raised i x w) gave threw = threw i x (back_in caller w)
+after_call caller (Over e w) gave threw = Over e w
+
+-- A call takes a unit after its arguments are known.
+abbrev pub call : {V X A : Type 0} → Callee A X → ℕ → Option A → World → (X → World → Outcome V X) → (ℕ → X → World → Outcome V X) → Outcome V X
+call callee f arguments w gave threw = with_value arguments w (λ a. spend w (λ w'. after_call w (callee f a w') gave threw))
+
+-- So does a call whose callee takes the place of the running function and leaves it as its own body would.
+abbrev pub tail_call : {V X A : Type 0} → Callee A X → ℕ → Option A → World → Outcome V X
+tail_call callee f arguments w = with_value arguments w (λ a. spend w (λ w. left (callee f a (leaving w))))
 
 -- the world at the end
 abbrev pub world_of : {V X : Type 0} → Outcome V X → World

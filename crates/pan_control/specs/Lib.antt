@@ -1,3 +1,4 @@
 pub mod World
 pub mod Control
+pub mod Memory
 pub mod Seen

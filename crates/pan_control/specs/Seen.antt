@@ -2,7 +2,8 @@
 use Rattle.std.specs.Prelude.{ℕ}
 use Rattle.pan_base.specs.Events.{Behaviour}
 
--- its trace and end, and the most that the costs of its active calls have been
+-- its trace and end, the most that the costs of its active calls have been, and how much was done
 pub record Seen : Type 0 where
   pub behaviour : Behaviour
   pub deepest : ℕ
+  pub toll : ℕ

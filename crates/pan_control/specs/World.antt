@@ -1,5 +1,5 @@
 -- The outside as a program sees it: memory, the replies to come, the trace so far, and the counters.
-use Rattle.std.specs.Prelude.{ℕ, ◌+◌, max, List}
+use Rattle.std.specs.Prelude.{ℕ, ◌+◌, ◌-◌, max, List}
 use Rattle.pan_base.specs.Events.{Replied, Event}
 
 -- all that a statement reads and changes beside its variables
@@ -16,7 +16,21 @@ pub record World : Type 0 where
   pub own : ℕ
   -- the most that the costs of the active calls have been
   pub deepest : ℕ
+  -- how much was done so far, as the language counts it
+  pub toll : ℕ
 
 -- a function of this cost is entered
 abbrev pub entered : ℕ → World → World
 entered cost w = record w { active = w.active + cost; own = cost; deepest = max w.deepest (w.active + cost) }
+
+-- the running function is about to leave its place to another
+abbrev pub leaving : World → World
+leaving w = record w { active = w.active - w.own }
+
+-- a call has come back to a caller that stood so
+abbrev pub back_in : World → World → World
+back_in caller w = record w { active = caller.active; own = caller.own }
+
+-- so much more is done
+abbrev pub tolled : ℕ → World → World
+tolled n w = record w { toll = w.toll + n }

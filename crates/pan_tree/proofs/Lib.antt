@@ -1,1 +1,4 @@
 pub mod ShapeLayers
+pub mod MeaningLayers
+pub mod OwnWeights
+pub mod GoesOn

@@ -5,6 +5,8 @@ use Rattle.std.specs.List.{list_any, list_all}
 use Rattle.std.specs.Option.{option_map_or, is_some}
 use Rattle.std.specs.Str.{bytes_eq}
 use Rattle.pan_base.specs.Names.{is_spelled}
+pub use Rattle.pan_tree.specs.Scopes.{in_scope, is_declared, declare}
+use Rattle.pan_tree.specs.Scopes.{ScopeOf, ScopesOf, innermost}
 use Rattle.pan_tree.specs.Shapes.{words_of, Part, APart, OfWord, NoPart, part_at, is_word, same}
 use Rattle.pan_tree.specs.declared.rule.Rule.{Rule}
 use Rattle.pan_tree.specs.declared.rule.Rule.TheVariants.{TwoNames, NoMain, MainShape, UnknownName, UnknownFunction, UnknownException, WrongShape, WrongCount, NotStruct, NoField, NotWord, BadShift, LoopOutside, NoReturn, ShapeTooWide, TooMany, FunctionTooHeavy, ProgramTooHeavy}
@@ -45,34 +47,17 @@ is_wide s = nat_lt max_words (words_of s)
 
 -- ---- variables
 
--- the variables of a block with their shapes, in the order of their declarations
+-- the variables of a block with their shapes
 abbrev pub Scope : Type 0
-Scope = List (List ℕ × Shape)
+Scope = ScopeOf Shape
 
--- those of the blocks that are open, the innermost first
+-- those of the blocks that are open
 abbrev pub Scopes : Type 0
-Scopes = List Scope
-
-abbrev pub in_scope : List ℕ → Scope → Option Shape
-in_scope x scope = option_map (λ v. v.1) (find (λ v. bytes_eq v.0 x) scope)
+Scopes = ScopesOf Shape
 
 -- the shape of the innermost variable of this name
 abbrev pub shape_of : List ℕ → Scopes → Option Shape
-shape_of x [] = None
-shape_of x (scope ∷ scopes) = or_else (in_scope x scope) (shape_of x scopes)
-  where
-    or_else : Option Shape → Option Shape → Option Shape
-    or_else None other = other
-    or_else (Some s) other = Some s
-
--- the innermost block has a variable of this name
-abbrev pub is_declared : List ℕ → Scopes → Bool
-is_declared x [] = false
-is_declared x (scope ∷ scopes) = is_some (in_scope x scope)
-
-abbrev pub declare : List ℕ → Shape → Scopes → Scopes
-declare x s [] = []
-declare x s (scope ∷ scopes) = (scope ++ (x, s) ∷ []) ∷ scopes
+shape_of = innermost
 
 -- a variable that isn't known counts as a word
 abbrev pub or_word : Option Shape → Shape

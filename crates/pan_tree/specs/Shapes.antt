@@ -1,9 +1,9 @@
 -- Shapes of values.
-use Rattle.std.specs.Prelude.{ℕ, ◌&&◌, Bool, true, false, List, [], ◌∷◌, sum, replicate, slice_get, Option, Some, None}
+use Rattle.std.specs.Prelude.{ℕ, ◌&&◌, Bool, true, false, List, [], ◌∷◌, sum, replicate, drop, slice_get, slice_index, Option, Some, None}
 use Rattle.pan_tree.specs.declared.shape.Shape.{Shape, Shape-F, fold-Shape, out-Shape}
 use Rattle.pan_tree.specs.declared.shape.Shape.TheOpen as open_shape
 use Rattle.pan_tree.specs.declared.shape.Shape.TheVariants as shape
-use Rattle.pan_tree.specs.Value.{Value, Values, Word, Struct, none, more}
+use Rattle.pan_tree.specs.Value.{Value, Word, Struct, Values, none, more, values_list, values_of}
 
 -- ---- words
 
@@ -79,10 +79,6 @@ same = fold-Shape (Shape → Bool) same_layer
 
 -- ---- values of a shape
 
-abbrev pub values_list : Values → List Value
-values_list none = []
-values_list (more v vs) = v ∷ values_list vs
-
 abbrev pub value_parts : Value → Option (List Value)
 value_parts (Word n) = None
 value_parts (Struct vs) = Some (values_list vs)
@@ -95,3 +91,49 @@ shaped_layer (open_shape.Group parts) v = some_hold parts (value_parts v)
 
 unfoldable pub shaped : Shape → Value → Bool
 shaped = fold-Shape (Value → Bool) shaped_layer
+
+-- ---- values from words
+
+-- The value of a shape with the first of these words, and the words that are left. Words that aren't there count as 0.
+abbrev pub Filling : Type 0
+Filling = List ℕ → Value × List ℕ
+
+-- parts of such shapes, one after another
+abbrev pub fill_each : List Filling → List ℕ → List Value × List ℕ
+fill_each [] ns = ([], ns)
+fill_each (f ∷ fs) ns =
+    let one = f ns in
+    let others = fill_each fs one.1 in
+    (one.0 ∷ others.0, others.1)
+
+abbrev pub struct_of : List Value × List ℕ → Value × List ℕ
+struct_of parts = (Struct (values_of parts.0), parts.1)
+
+abbrev pub fill_word : Filling
+fill_word ns = (Word (slice_index ns 0), drop 1 ns)
+
+abbrev pub fill_layer : Shape-F Filling → Filling
+fill_layer open_shape.Word ns = fill_word ns
+fill_layer (open_shape.Words n) ns = struct_of (fill_each (replicate n fill_word) ns)
+fill_layer (open_shape.Group parts) ns = struct_of (fill_each parts ns)
+
+unfoldable pub filling : Shape → Filling
+filling = fold-Shape Filling fill_layer
+
+-- the value of the shape with these words
+abbrev pub filled : Shape → List ℕ → Value
+filled s ns = (filling s ns).0
+
+-- the value of the shape whose words are all 0
+abbrev pub zero_of : Shape → Value
+zero_of s = filled s []
+
+-- the shape of a value, in which each struct is a group
+abbrev mutual
+  pub shape_in : Value → Shape
+  shape_in (Word n) = shape.Word
+  shape_in (Struct parts) = shape.Group (shapes_in parts)
+
+  pub shapes_in : Values → List Shape
+  shapes_in none = []
+  shapes_in (more v vs) = shape_in v ∷ shapes_in vs

@@ -1,6 +1,7 @@
 //! The source's trees, and what they mean, what they weigh and which rules they keep (`specs/`).
 #![tactic(auto)]
 
+mod laws;
 mod level;
 mod program;
 mod rule;
@@ -9,6 +10,7 @@ mod shapes;
 mod spanned;
 mod syntax;
 
+pub use laws::source_goes_on;
 pub use level::Level;
 pub use program::{Exception, Function, Param, Program};
 pub use rule::Rule;
