@@ -1,8 +1,8 @@
 -- Runs of the machine with more steps go on from runs with fewer, and a run that has ended stays as it is.
-use Rattle.std.proofs.Common.{◌≡◌, ◌≢◌, ℕ, ◌+◌, zero, suc, refl, sym, ap, ◌∙◌, subst, List, [], ◌∷◌, ◌++◌, Bool, true, false, arith, inl, inr}
+use Rattle.std.proofs.Common.{◌≡◌, ℕ, ◌+◌, zero, suc, refl, sym, ap, subst, List, [], ◌∷◌, Bool, true, false, arith, inl, inr}
 use Rattle.std.specs.Prelude.{◌⊎◌}
 use Rattle.std.proofs.lemmas.List.{append-nil}
-use Rattle.pan_base.specs.Events.{Asked, Replied, Event, Ending, Spent, Behaviour, only, before, IsPrefix, fits}
+use Rattle.pan_base.specs.Events.{Asked, Replied, Event, Spent, Behaviour, only, before, IsPrefix, fits}
 use Rattle.riscv_isa.specs.Step.{State, Config, Runs, Waits, Over, step, request_of, resumed}
 use Rattle.riscv_isa.specs.Machine.{taken, continue, run, booted, machine}
 use Rattle.pan_agree.specs.Laws.{IsSteady}

@@ -1,5 +1,5 @@
 -- How the runs of a machine, at each number of steps, agree with those of a source, at each number of units of fuel, on one memory, stack and list of replies.
-use Rattle.std.specs.Prelude.{◌≡◌, ◌≢◌, ◌⊎◌, ℕ, ◌<◌, ◌≤◌, Bool, true, false, IsTrue}
+use Rattle.std.specs.Prelude.{◌≡◌, ◌≢◌, ◌⊎◌, ℕ, ◌<◌, Bool, true, false, IsTrue}
 use Rattle.pan_base.specs.Events.{Ending, Exit, Uncaught, Stopped, Asks, Spent, Stack, Fault, Fails, Behaviour, IsPrefix}
 use Rattle.pan_control.specs.Seen.{Seen}
 

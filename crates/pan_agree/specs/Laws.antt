@@ -1,6 +1,6 @@
 -- What the law of both directions asks of a source, of a machine, and of the forward direction between them.
 use Rattle.std.specs.Prelude.{◌≡◌, ◌≢◌, ◌⊎◌, ℕ, ◌+◌, ◌≤◌}
-use Rattle.pan_base.specs.Events.{Ending, Spent, Stack, Fault, Fails, Behaviour, IsPrefix}
+use Rattle.pan_base.specs.Events.{Spent, Stack, Fault, Fails, Behaviour, IsPrefix}
 use Rattle.pan_control.specs.Seen.{Seen}
 use Rattle.pan_agree.specs.Agree.{Overflows}
 

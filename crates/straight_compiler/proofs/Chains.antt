@@ -6,8 +6,8 @@ use Rattle.pan_tree.specs.declared.spanned.Spanned.{Spanned}
 use Rattle.pan_tree.specs.declared.syntax.ExprKind.{ExprKind, ExprKind-F, roll-ExprKind, map-ExprKind, fold-roll-ExprKind}
 use Rattle.pan_tree.specs.declared.syntax.ExprKind.TheVariants as e
 use Rattle.pan_tree.specs.declared.syntax.ExprKind.TheOpen as expr
-use Rattle.pan_tree.specs.Value.{Word, Scopes}
-use Rattle.pan_tree.specs.Meaning.{Giving, as_word, chain, value_layer, value_kind, word}
+use Rattle.pan_tree.specs.Value.{Word}
+use Rattle.pan_tree.specs.Meaning.{Scopes, Giving, as_word, chain, value_layer, value_kind, word}
 
 value_roll : (x : ExprKind-F ExprKind) → value_kind (roll-ExprKind x) ≡ value_layer (map-ExprKind ExprKind Giving value_kind x)
 unfolding value_kind

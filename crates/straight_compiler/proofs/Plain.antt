@@ -49,6 +49,7 @@ plain_store k n a x is (inr (e, at, p)) = absurd (return_no_store e a x n (sym a
 pub record IsMain (program : Program) (main : Function) (stmts : List (Spanned StmtKind)) : Type 0 where
   pub functions : program.functions ≡ main ∷ []
   pub name : main.name ≡ codes "main"
+  pub params : main.params ≡ []
   pub body : stmts ≡ (main.body).stmts
   pub plain : All (λ s. IsPlain s.kind) stmts
   pub few : 4 * length stmts ≤ function_weight program main
@@ -63,6 +64,7 @@ main_is program (main, none, one, h) items first stmts all is body =
     record {
       functions = functions;
       name = ap (λ (f : Function). f.name) same ∙ h.name;
+      params = ap (λ (f : Function). f.params) same ∙ h.params;
       body = body;
       plain = plain;
       few = subst (λ ss. 4 * length ss ≤ function_weight program first) (sym body) (few program first (subst (All Plain) body plain));

@@ -8,16 +8,17 @@ use Rattle.pan_control.specs.Control.{Returned, with_value}
 use Rattle.pan_tree.specs.declared.spanned.Spanned.{Spanned}
 use Rattle.pan_tree.specs.declared.syntax.ExprKind.{ExprKind}
 use Rattle.pan_tree.specs.declared.syntax.StmtKind.TheVariants as stmt
-use Rattle.pan_tree.specs.Value.{Value, Scopes}
-use Rattle.pan_tree.specs.Meaning.{Does, as_word, value, word, run_kind, exit_of}
-use Rattle.straight_compiler.proofs.Statements.{return_is}
+use Rattle.pan_tree.specs.Value.{Value}
+use Rattle.pan_tree.specs.Meaning.{Scopes, Does, as_word, value, word, own_weight, exit_of}
+use Rattle.pan_tree.specs.declared.syntax.StmtKind.TheOpen as open_stmt
+use Rattle.straight_compiler.proofs.Statements.{does_return, performs_working, return_is}
 use Rattle.riscv_isa.specs.declared.instr.Instr.{Instr}
 use Rattle.riscv_isa.specs.declared.instr.Instr.TheVariants as instr
 use Rattle.riscv_isa.specs.Step.{State, Config, reg, act}
 use Rattle.riscv_isa.specs.Step as step
 use Rattle.riscv_isa.specs.Machine.{continue}
 use Rattle.straight_compiler.specs.Follow.{IsInline, follow, Leads, SetsRegister}
-use Rattle.straight_compiler.specs.Performs.{shown, shown_after, Performs, Grows}
+use Rattle.straight_compiler.specs.Performs.{shown, shown_after, Performs, GrowsBy}
 use Rattle.straight_compiler.proofs.Setting.{follow_append}
 use Rattle.straight_compiler.proofs.Pushing.{Pushed, at_most_eight}
 
@@ -50,7 +51,7 @@ returned_same None x w go is = absurd (cc)
 returned_same (Some a) x w go is = ended_same w.trace _ (append-nil w.trace) _ _ (sym (ap exit_of is))
 
 return_performs : (e : Spanned ExprKind) (x : ℕ) (first second third : List Instr) → ((v : Scopes) (m : List ℕ) → word e v m ≡ Some x)
-    → SetsRegister 11 x first → SetsRegister 10 0 second → SetsRegister 17 0 third → Performs (λ v w. with_value (value e v w.memory) w (λ a. Returned a w)) (((first ++ second) ++ third) ++ instr.Ecall ∷ [])
+    → SetsRegister 11 x first → SetsRegister 10 0 second → SetsRegister 17 0 third → Performs (does_return e) (((first ++ second) ++ third) ++ instr.Ecall ∷ [])
 return_performs e x first second third gives f g h = record {
   row = All-push IsInline _ instr.Ecall (All-append IsInline (first ++ second) third (All-append IsInline first second f.row g.row) h.row) tt;
   does = λ s ready.
@@ -75,10 +76,10 @@ return_performs e x first second third gives f g h = record {
 
 -- The code that grows by the three constants and the call does the return.
 pub return_grows : (e : Spanned ExprKind) (x : ℕ) (old first second third new : List Instr) → ((v : Scopes) (m : List ℕ) → word e v m ≡ Some x)
-    → Pushed old first 11 x → Pushed first second 10 0 → Pushed second third 17 0 → new ≡ third ++ instr.Ecall ∷ [] → Grows (run_kind (stmt.Return e)) old new
-return_grows e x old first second third new gives (a, at₁, f) (b, at₂, g) (c, at₃, h) at₄ = record {
+    → Pushed old first 11 x → Pushed first second 10 0 → Pushed second third 17 0 → new ≡ third ++ instr.Ecall ∷ [] → GrowsBy (stmt.Return e) old new
+return_grows e x old first second third new gives (a, at₁, f) (b, at₂, g) (c, at₃, h) at₄ p d callee = record {
   added = ((a ++ b) ++ c) ++ instr.Ecall ∷ [];
   grown = at₄ ∙ ap (λ code. code ++ instr.Ecall ∷ []) (at₃ ∙ ap (λ code. code ++ c) (at₂ ∙ ap (λ code. code ++ b) at₁ ∙ append_assoc old a b) ∙ append_assoc old (a ++ b) c) ∙ append_assoc old ((a ++ b) ++ c) _;
-  short = let i = at_most_eight x in let p = f.short in let q = g.short in let r = h.short in simp length-append (omega arith);
-  performs = subst (λ (m : Does). Performs m (((a ++ b) ++ c) ++ instr.Ecall ∷ [])) (sym (return_is e)) (return_performs e x a b c gives f g h);
+  short = let i = at_most_eight x in let j = f.short in let k = g.short in let l = h.short in simp length-append (omega arith);
+  performs = subst (λ (m : Does). Performs m (((a ++ b) ++ c) ++ instr.Ecall ∷ [])) (sym (return_is p d callee e)) (performs_working (own_weight {A = Does} p (open_stmt.Return e)) (does_return e) _ (return_performs e x a b c gives f g h));
 }

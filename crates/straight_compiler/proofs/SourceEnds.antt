@@ -1,14 +1,20 @@
 -- A source meets neither a fault nor the end of a stack.
-use Rattle.std.proofs.Common.{◌≢◌, sym, subst, ℕ, ◌*◌, ◌%◌, ◌^◌, List, [], ◌∷◌, map, Bool, true, false, Option, Some, None}
+use Rattle.std.proofs.Common.{◌≢◌, sym, ap, ◌∙◌, inl, inr, subst, ℕ, ◌*◌, ◌%◌, ◌^◌, List, [], ◌∷◌, map, Bool, true, false, Option, Some, None}
 use Rattle.pan_base.specs.Events.{Asked, Store, Replied, Ending, Fault, Stack, fits, byte_count}
-use Rattle.pan_control.specs.World.{World}
-use Rattle.pan_control.specs.Control.{Outcome, Normal, Broken, Continued, Returned, Raised, Over, Meaning, and_then, in_turn, with_value, where_true, ask_of, ask_fit, left}
+use Rattle.pan_control.specs.World.{World, tolled}
+use Rattle.pan_control.specs.Control.{Outcome, Normal, Broken, Continued, Returned, Raised, Over, Meaning, Callee, and_then, in_turn, with_value, where_true, ask_of, ask_fit, left}
 use Rattle.pan_tree.specs.declared.spanned.Spanned.{Spanned}
-use Rattle.pan_tree.specs.declared.syntax.StmtKind.{StmtKind, StmtKind-F, map-StmtKind}
-use Rattle.pan_tree.specs.declared.syntax.StmtKind.TheOpen as stmt
-use Rattle.straight_compiler.proofs.Statements.{run_roll, by_layers}
-use Rattle.pan_tree.specs.Value.{Value, Scopes, word_of}
-use Rattle.pan_tree.specs.Meaning.{Does, run_layer, value, word, is_shared, run_kind, exit_of, seen}
+use Rattle.pan_tree.specs.declared.syntax.StmtKind.{StmtKind}
+use Rattle.pan_tree.specs.declared.syntax.StmtKind.TheOpen as open_stmt
+use Rattle.pan_tree.specs.declared.program.Program.{Program}
+use Rattle.pan_base.specs.declared.events.Size.TheVariants.{B8}
+use Rattle.std.specs.List.{All}
+use Rattle.std.proofs.lemmas.List.Elements.{All-head, All-tail}
+use Rattle.pan_control.specs.Memory.{is_shared}
+use Rattle.pan_tree.specs.Value.{Value, word_of}
+use Rattle.pan_tree.specs.Meaning.{Scopes, Does, value, word, own_weight, run_kind, exit_of, seen}
+use Rattle.straight_compiler.specs.Performs.{IsPlain}
+use Rattle.straight_compiler.proofs.Statements.{return_is, store_is}
 
 -- an end of a source
 pub record IsOfSource (e : Ending) : Type 0 where
@@ -35,15 +41,15 @@ ask_ends : (replies : List Replied) (q : Asked) (w : World) (v : Scopes) → End
 ask_ends [] q w v = record { no_fault = λ e. cc; no_stack = λ e. cc }
 ask_ends (r ∷ rs) q w v = fit_ends (fits q r) q r rs w v
 
-layer_ends : (x : StmtKind-F Does) (v : Scopes) (w : World) → EndsAsSource (run_layer x v w)
-layer_ends (stmt.Return e) v w = value_ends (value e v w.memory) w _ (λ a. tt)
-layer_ends (stmt.SharedStore size a e) v w =
-    value_ends (word a v w.memory) w _ (λ addr. value_ends (word e v w.memory) w _ (λ n. true_ends (is_shared size addr) w _ (ask_ends w.replies (Store size addr (n % 2 ^ (8 * byte_count size))) w v)))
-layer_ends _ v w = record { no_fault = λ e. cc; no_stack = λ e. cc }
-
-stmt_ends : (k : StmtKind) (v : Scopes) (w : World) → EndsAsSource (run_kind k v w)
-stmt_ends = by_layers (λ k. (v : Scopes) (w : World) → EndsAsSource (run_kind k v w))
-    (λ y v w. subst (λ (m : Does). EndsAsSource (m v w)) (sym (run_roll (map-StmtKind _ StmtKind (λ c. c.0) y))) (layer_ends _ v w))
+plain_ends : (p : Program) (d : ℕ) (callee : Callee (List Value) Value) (k : StmtKind) → IsPlain k → (v : Scopes) (w : World) → EndsAsSource (run_kind p d callee k v w)
+plain_ends p d callee k (inl (a, e, is, _, _)) v w =
+    let n = own_weight {A = Does} p (open_stmt.SharedStore B8 a e) v in
+    let w' = tolled n w in
+    subst (λ (m : Does). EndsAsSource (m v w)) (sym (ap (run_kind p d callee) is ∙ store_is p d callee B8 a e))
+    (value_ends (word a v w.memory) w' _ (λ addr. value_ends (word e v w.memory) w' _ (λ n. true_ends (is_shared B8 addr) w' _ (ask_ends w.replies (Store B8 addr (n % 2 ^ (8 * byte_count B8))) w' v))))
+plain_ends p d callee k (inr (e, is, _)) v w =
+    subst (λ (m : Does). EndsAsSource (m v w)) (sym (ap (run_kind p d callee) is ∙ return_is p d callee e))
+    (value_ends (value e v w.memory) (tolled (own_weight {A = Does} p (open_stmt.Return e) v) w) _ (λ a. tt))
 
 then_ends : (o : Outcome Scopes Value) (m : Meaning Scopes Value) → EndsAsSource o → ((v : Scopes) (w : World) → EndsAsSource (m v w)) → EndsAsSource (and_then o m)
 then_ends (Normal v w) m h all = all v w
@@ -53,9 +59,13 @@ then_ends (Returned x w) m h all = tt
 then_ends (Raised i x w) m h all = tt
 then_ends (Over e w) m h all = h
 
-turn_ends : (stmts : List (Spanned StmtKind)) (v : Scopes) (w : World) → EndsAsSource (in_turn (map (λ (s : Spanned StmtKind). run_kind s.kind) stmts) v w)
-turn_ends [] v w = tt
-turn_ends (s ∷ ss) v w = then_ends (run_kind s.kind v w) _ (stmt_ends s.kind v w) (turn_ends ss)
+module _ (p : Program) (d : ℕ) (callee : Callee (List Value) Value) where
+  abbrev Plain : Spanned StmtKind → Type 0
+  Plain x = IsPlain x.kind
+
+  turn_ends : (stmts : List (Spanned StmtKind)) → All Plain stmts → (v : Scopes) (w : World) → EndsAsSource (in_turn (map (λ (s : Spanned StmtKind). run_kind p d callee s.kind) stmts) v w)
+  turn_ends [] plain v w = tt
+  turn_ends (s ∷ ss) plain v w = then_ends (run_kind p d callee s.kind v w) _ (plain_ends p d callee s.kind (All-head Plain s ss plain) v w) (turn_ends ss (All-tail Plain s ss plain))
 
 exit_ends : (o : Option ℕ) → IsOfSource (exit_of o)
 exit_ends None = record { no_fault = λ e. cc; no_stack = λ e. cc }
@@ -69,5 +79,6 @@ left_ends (Returned x w) h = exit_ends (word_of x)
 left_ends (Raised i x w) h = record { no_fault = λ e. cc; no_stack = λ e. cc }
 left_ends (Over e w) h = h
 
-pub body_ends : (stmts : List (Spanned StmtKind)) (v : Scopes) (w : World) → IsOfSource (((seen (left (in_turn (map (λ (s : Spanned StmtKind). run_kind s.kind) stmts) v w))).behaviour).ending)
-body_ends stmts v w = left_ends _ (turn_ends stmts v w)
+pub body_ends : (p : Program) (d : ℕ) (callee : Callee (List Value) Value) (stmts : List (Spanned StmtKind)) → All (λ (x : Spanned StmtKind). IsPlain x.kind) stmts
+    → (v : Scopes) (w : World) → IsOfSource (((seen (left (in_turn (map (λ (s : Spanned StmtKind). run_kind p d callee s.kind) stmts) v w))).behaviour).ending)
+body_ends p d callee stmts plain v w = left_ends _ (turn_ends p d callee stmts plain v w)

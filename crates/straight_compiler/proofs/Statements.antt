@@ -1,26 +1,45 @@
--- What statements mean, variant by variant.
-use Rattle.std.proofs.Common.{◌≡◌, sym, ap, subst, ◌∙◌, ◌%◌, ◌*◌, ◌^◌}
+-- What the statements of the straight-line form mean.
+use Rattle.std.proofs.Common.{◌≡◌, ℕ, sym, ap, List, ◌∙◌, ◌%◌, ◌*◌, ◌^◌}
 use Rattle.pan_base.specs.declared.events.Size.{Size}
 use Rattle.pan_base.specs.Events.{Store, byte_count}
-use Rattle.pan_control.specs.Control.{Normal, Returned, with_value, where_true, ask}
+use Rattle.pan_control.specs.World.{tolled}
+use Rattle.pan_control.specs.Memory.{is_shared}
+use Rattle.pan_control.specs.Control.{Normal, Returned, Callee, with_value, where_true, ask}
 use Rattle.pan_tree.specs.declared.spanned.Spanned.{Spanned}
 use Rattle.pan_tree.specs.declared.syntax.ExprKind.{ExprKind}
-use Rattle.pan_tree.specs.declared.syntax.StmtKind.{StmtKind, StmtKind-F, roll-StmtKind, map-StmtKind, ind-StmtKind, fold-roll-StmtKind}
 use Rattle.pan_tree.specs.declared.syntax.StmtKind.TheVariants as s
 use Rattle.pan_tree.specs.declared.syntax.StmtKind.TheOpen as stmt
-use Rattle.pan_tree.specs.Meaning.{Does, value, word, is_shared, run_layer, run_kind}
+use Rattle.pan_tree.specs.declared.program.Program.{Program}
+use Rattle.pan_tree.specs.Value.{Value}
+use Rattle.pan_tree.specs.Meaning.{Scopes, Does, value, word, own_weight, run_kind}
+use Rattle.pan_tree.proofs.MeaningLayers.{run_roll}
+use Rattle.riscv_isa.specs.declared.instr.Instr.{Instr}
+use Rattle.straight_compiler.specs.Performs.{Performs}
 
-pub run_roll : (x : StmtKind-F StmtKind) → run_kind (roll-StmtKind x) ≡ run_layer (map-StmtKind StmtKind Does run_kind x)
-unfolding run_kind
-run_roll x = fold-roll-StmtKind Does run_layer x
+-- what a return does, and a store, but for their work
+abbrev pub does_return : Spanned ExprKind → Does
+does_return e v w = with_value (value e v w.memory) w (λ a. Returned a w)
 
-pub return_is : (e : Spanned ExprKind) → run_kind (s.Return e) ≡ (λ v w. with_value (value e v w.memory) w (λ a. Returned a w))
-return_is e = ap run_kind (sym (s.rolls-Return e)) ∙ run_roll (stmt.Return e)
+abbrev pub does_store : Size → Spanned ExprKind → Spanned ExprKind → Does
+does_store size a e v w =
+    with_value (word a v w.memory) w (λ addr. with_value (word e v w.memory) w (λ n. where_true (is_shared size addr) w (ask (Store size addr (n % 2 ^ (8 * byte_count size))) w (λ r w. Normal v w))))
 
-pub store_is : (size : Size) (a e : Spanned ExprKind) → run_kind (s.SharedStore size a e)
-    ≡ (λ v w. with_value (word a v w.memory) w (λ addr. with_value (word e v w.memory) w (λ n. where_true (is_shared size addr) w (ask (Store size addr (n % 2 ^ (8 * byte_count size))) w (λ r w. Normal v w)))))
-store_is size a e = ap run_kind (sym (s.rolls-SharedStore size a e)) ∙ run_roll (stmt.SharedStore size a e)
+-- the same with so much work
+abbrev pub working : (Scopes → ℕ) → Does → Does
+working n m v w = m v (tolled (n v) w)
 
--- induction over statements, one layer at a time
-pub by_layers : (P : StmtKind → Type 0) → ((y : StmtKind-F ((k : StmtKind) × P k)) → P (roll-StmtKind (map-StmtKind ((k : StmtKind) × P k) StmtKind (λ c. c.0) y))) → (k : StmtKind) → P k
-by_layers P at k = ind-StmtKind P (λ x y is. subst (λ x. P (roll-StmtKind x)) is (at y)) k
+-- work isn't seen
+pub performs_working : (n : Scopes → ℕ) (m : Does) (code : List Instr) → Performs m code → Performs (working n m) code
+performs_working n m code p = record {
+  row = p.row;
+  does = λ s ready.
+      let a = p.does s ready in
+      record { state = a.state; ready = a.ready; same = λ go v w ok. a.same go v (tolled (n v) w) ok };
+}
+
+module _ (p : Program) (d : ℕ) (callee : Callee (List Value) Value) where
+  pub return_is : (e : Spanned ExprKind) → run_kind p d callee (s.Return e) ≡ working (own_weight {A = Does} p (stmt.Return e)) (does_return e)
+  return_is e = ap (run_kind p d callee) (sym (s.rolls-Return e)) ∙ run_roll p d callee (stmt.Return e)
+
+  pub store_is : (size : Size) (a e : Spanned ExprKind) → run_kind p d callee (s.SharedStore size a e) ≡ working (own_weight {A = Does} p (stmt.SharedStore size a e)) (does_store size a e)
+  store_is size a e = ap (run_kind p d callee) (sym (s.rolls-SharedStore size a e)) ∙ run_roll p d callee (stmt.SharedStore size a e)

@@ -14,9 +14,11 @@ use Rattle.pan_control.specs.Control.{Outcome, Normal, where_true, ask, ask_of, 
 use Rattle.pan_tree.specs.declared.spanned.Spanned.{Spanned}
 use Rattle.pan_tree.specs.declared.syntax.ExprKind.{ExprKind}
 use Rattle.pan_tree.specs.declared.syntax.StmtKind.TheVariants as stmt
-use Rattle.pan_tree.specs.Value.{Value, Scopes}
-use Rattle.pan_tree.specs.Meaning.{Does, word, is_shared, run_kind}
-use Rattle.straight_compiler.proofs.Statements.{store_is}
+use Rattle.pan_tree.specs.Value.{Value}
+use Rattle.pan_tree.specs.Meaning.{Does, word, Scopes, own_weight}
+use Rattle.pan_control.specs.Memory.{is_shared}
+use Rattle.pan_tree.specs.declared.syntax.StmtKind.TheOpen as open_stmt
+use Rattle.straight_compiler.proofs.Statements.{does_store, performs_working, store_is}
 use Rattle.riscv_isa.specs.declared.instr.Instr.{Instr}
 use Rattle.riscv_isa.specs.declared.instr.Instr.TheVariants as instr
 use Rattle.riscv_isa.specs.declared.place.Region.{Region}
@@ -27,7 +29,7 @@ use Rattle.riscv_isa.specs.Regions.{Memory, begin, bytes_of, is_within, is_in, p
 use Rattle.riscv_isa.specs.Step.{State, Config, Waits, reg, plus, next, act}
 use Rattle.riscv_isa.specs.Machine.{continue, taken}
 use Rattle.straight_compiler.specs.Follow.{IsInline, follow, Leads, SetsRegister}
-use Rattle.straight_compiler.specs.Performs.{shown, shown_after, Performs, Grows}
+use Rattle.straight_compiler.specs.Performs.{shown, shown_after, Performs, GrowsBy}
 use Rattle.straight_compiler.proofs.Setting.{follow_append}
 use Rattle.straight_compiler.proofs.Pushing.{Pushed, at_most_eight}
 
@@ -92,8 +94,8 @@ abbrev stored : ℕ → ℕ → Scopes → World → Outcome Scopes Value
 stored x y v w = where_true (is_shared size.B8 x) w (ask (Store size.B8 x (y % 2 ^ 64)) w (λ r w. Normal v w))
 
 stored_is : (a e : Spanned ExprKind) (x y : ℕ) → ((v : Scopes) (m : List ℕ) → word a v m ≡ Some x) → ((v : Scopes) (m : List ℕ) → word e v m ≡ Some y)
-    → (v : Scopes) (w : World) → run_kind (stmt.SharedStore size.B8 a e) v w ≡ stored x y v w
-stored_is a e x y gives_a gives_e v w = ap (λ (f : Does). f v w) (store_is size.B8 a e) ∙ rw (gives_a v w.memory, gives_e v w.memory) refl
+    → (v : Scopes) (w : World) → does_store size.B8 a e v w ≡ stored x y v w
+stored_is a e x y gives_a gives_e v w = rw (gives_a v w.memory, gives_e v w.memory) refl
 
 stored_same : (b : Bool) (x y : ℕ) (t : State) (v : Scopes) (w : World) (go : State → List Replied → Behaviour) → is_shared size.B8 x ≡ b
     → (b ≡ true → act sd t ≡ Waits (pending.Store size.B8 x (y % 2 ^ 64)) (next t))
@@ -114,7 +116,7 @@ after_constants first second s x y l m all =
     }
 
 store_performs : (a e : Spanned ExprKind) (x y : ℕ) (first second : List Instr) → ((v : Scopes) (m : List ℕ) → word a v m ≡ Some x) → ((v : Scopes) (m : List ℕ) → word e v m ≡ Some y)
-    → x < 2 ^ 64 → SetsRegister 5 x first → SetsRegister 6 y second → Performs (run_kind (stmt.SharedStore size.B8 a e)) ((first ++ second) ++ sd ∷ [])
+    → x < 2 ^ 64 → SetsRegister 5 x first → SetsRegister 6 y second → Performs (does_store size.B8 a e) ((first ++ second) ++ sd ∷ [])
 unfolding sd
 store_performs a e x y first second gives_a gives_e small f g = record {
   row = All-push IsInline (first ++ second) sd (All-append IsInline first second f.row g.row) (omega arith, omega arith, omega (arith, ints), omega (arith, ints));
@@ -142,11 +144,11 @@ store_performs a e x y first second gives_a gives_e small f g = record {
 
 -- The code that grows by the two constants and the store does the store.
 pub store_grows : (a e : Spanned ExprKind) (x y : ℕ) (old mid mid' new : List Instr) → ((v : Scopes) (m : List ℕ) → word a v m ≡ Some x) → ((v : Scopes) (m : List ℕ) → word e v m ≡ Some y)
-    → x < 2 ^ 64 → y < 2 ^ 64 → Pushed old mid 5 x → Pushed mid mid' 6 y → new ≡ mid' ++ instr.S sop.Sd 5 6 (pos 0) ∷ [] → Grows (run_kind (stmt.SharedStore size.B8 a e)) old new
+    → x < 2 ^ 64 → y < 2 ^ 64 → Pushed old mid 5 x → Pushed mid mid' 6 y → new ≡ mid' ++ instr.S sop.Sd 5 6 (pos 0) ∷ [] → GrowsBy (stmt.SharedStore size.B8 a e) old new
 unfolding sd
-store_grows a e x y old mid mid' new gives_a gives_e small_x small_y (first, at₁, f) (second, at₂, g) at₃ = record {
+store_grows a e x y old mid mid' new gives_a gives_e small_x small_y (first, at₁, f) (second, at₂, g) at₃ p d callee = record {
   added = (first ++ second) ++ sd ∷ [];
   grown = at₃ ∙ ap (λ c. c ++ sd ∷ []) (at₂ ∙ ap (λ c. c ++ second) at₁ ∙ append_assoc old first second) ∙ append_assoc old (first ++ second) (sd ∷ []);
-  short = let h = at_most_eight x in let k = at_most_eight y in let p = f.short in let q = g.short in simp length-append (omega arith);
-  performs = store_performs a e x y first second gives_a gives_e small_x f g;
+  short = let h = at_most_eight x in let k = at_most_eight y in let i = f.short in let j = g.short in simp length-append (omega arith);
+  performs = subst (λ (m : Does). Performs m ((first ++ second) ++ sd ∷ [])) (sym (store_is p d callee size.B8 a e)) (performs_working (own_weight {A = Does} p (open_stmt.SharedStore size.B8 a e)) (does_store size.B8 a e) _ (store_performs a e x y first second gives_a gives_e small_x f g));
 }

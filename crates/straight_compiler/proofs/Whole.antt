@@ -1,19 +1,21 @@
 -- The image of the instructions of main's body is faithful to the program.
-use Rattle.std.proofs.Common.{◌≡◌, ◌≢◌, ℕ, ◌+◌, ◌*◌, ◌≤◌, refl, sym, ap, ◌∙◌, subst, List, [], ◌∷◌, length, map, Option, Some, None, true, cond, arith, inl}
-use Rattle.std.specs.Prelude.{codes, find}
+use Rattle.std.proofs.Common.{◌≡◌, ◌≢◌, ℕ, suc, ◌+◌, ◌*◌, ◌≤◌, refl, sym, ap, ◌∙◌, subst, List, [], ◌∷◌, length, map, Option, Some, None, true, arith, inl}
+use Rattle.std.specs.Prelude.{codes, position, slice_get, Bool}
+use Rattle.std.specs.List.{All}
 use Rattle.std.specs.Str.{bytes_eq}
 use Rattle.std.proofs.lemmas.List.{length-set, length-replicate}
 use Rattle.pan_base.specs.Events.{Replied, Behaviour, Fails}
 use Rattle.pan_control.specs.Seen.{Seen}
-use Rattle.pan_control.specs.World.{entered}
+use Rattle.pan_control.specs.World.{World, entered, tolled}
 use Rattle.pan_control.specs.Control.{Outcome, Normal, Broken, Continued, Returned, Raised, Over, in_turn, left, with_value}
 use Rattle.pan_tree.specs.declared.spanned.Spanned.{Spanned}
 use Rattle.pan_tree.specs.declared.syntax.StmtKind.{StmtKind}
 use Rattle.pan_tree.specs.declared.program.Function.{Function}
 use Rattle.pan_tree.specs.declared.program.Program.{Program}
-use Rattle.pan_tree.specs.Value.{Value, Scopes}
+use Rattle.pan_tree.specs.Value.{Value}
 use Rattle.pan_tree.specs.Check.{cost, IsWellShaped}
-use Rattle.pan_tree.specs.Meaning.{Does, run_kind, body_of, function, seen, start, source}
+use Rattle.pan_tree.specs.Meaning.{Scopes, Does, run_kind, entry_weight, parameters, body_of, calls, function_index, seen, start, source}
+use Rattle.pan_tree.specs.declared.program.Param.{Param}
 use Rattle.riscv_isa.specs.declared.instr.Instr.{Instr}
 use Rattle.riscv_isa.specs.declared.place.Region.TheVariants as region
 use Rattle.riscv_isa.specs.Regions.{begin, bytes_of}
@@ -24,7 +26,7 @@ use Rattle.pan_agree.specs.Faithful.{Faithful}
 use Rattle.pan_agree.proofs.BothWays.{agrees}
 use Rattle.pan_agree.proofs.Longer.{steady}
 use Rattle.straight_compiler.specs.Spells.{Spells}
-use Rattle.straight_compiler.specs.Performs.{shown_after, IsReady, Performs}
+use Rattle.straight_compiler.specs.Performs.{IsPlain, shown_after, IsReady, PerformsAll}
 use Rattle.straight_compiler.proofs.Steps.{runs}
 use Rattle.straight_compiler.proofs.Spelling.{spelled_length, spelled_bytes}
 use Rattle.straight_compiler.proofs.Plain.{IsMain}
@@ -52,41 +54,52 @@ ready code memory stack m s = record {
   ];
 }
 
-abbrev does : Spanned StmtKind → Does
-does s = run_kind s.kind
+-- the world in which main's body begins
+abbrev begun : Program → Function → List ℕ → List Replied → ℕ → World
+begun program main memory replies n = entered (cost program main) (tolled (entry_weight main) (start memory replies n))
+
+abbrev does : Program → ℕ → Spanned StmtKind → Does
+does program n s = run_kind program n (calls program n) s.kind
 
 -- what main's body does, from the world at the start
 abbrev outcome : Program → Function → List ℕ → List Replied → ℕ → Outcome Scopes Value
-outcome program main memory replies n = in_turn (map does (main.body).stmts) ([] ∷ []) (entered (cost program main) (start memory replies n))
+outcome program main memory replies n = in_turn (map (does program n) (main.body).stmts) ([] ∷ []) (begun program main memory replies n)
 
-module _ (program : Program) (main : Function) (functions : program.functions ≡ main ∷ []) (name : main.name ≡ codes "main") where
-  found : function (codes "main") program ≡ Some main
+module _ (program : Program) (main : Function) (functions : program.functions ≡ main ∷ []) (name : main.name ≡ codes "main") (params : main.params ≡ []) where
+  found : function_index (codes "main") program ≡ Some 0
   found =
       let named : bytes_eq main.name (codes "main") ≡ true = ap (λ n. bytes_eq n (codes "main")) name in
-      ap (λ fs. find (λ (f : Function). bytes_eq f.name (codes "main")) fs) functions ∙ ap (λ b. cond b (Some main) None) named
+      ap (λ fs. position (λ (f : Function). bytes_eq f.name (codes "main")) fs) functions ∙ ap (λ b. first_of b) named
+    where
+      first_of : Bool → Option ℕ
+      first_of b = position (λ (b : Bool). b) (b ∷ [])
 
   source_is : (memory : List ℕ) (replies : List Replied) (n : ℕ) → source program memory replies n ≡ seen (left (outcome program main memory replies n))
   source_is memory replies n =
-      ap (λ (o : Option Function). seen (with_value o (start memory replies n) (λ f. body_of program f (start memory replies n)))) found
+      let w = start memory replies n in
+      ap (λ (o : Option ℕ). seen (with_value o w (λ f. calls program (suc n) f [] w))) found
+      ∙ ap (λ (fs : List Function). seen (with_value (slice_get fs 0) w (λ g. body_of program n (calls program n) g [] w))) functions
+      ∙ ap (λ (ps : List Param). seen (with_value (parameters ps []) w (λ scope. left (in_turn (map (does program n) (main.body).stmts) (scope ∷ []) (begun program main memory replies n))))) params
 
-  like : (memory : List ℕ) (replies : List Replied) → IsSourceLike (source program memory replies)
-  like memory replies =
+  like : All (λ (x : Spanned StmtKind). IsPlain x.kind) (main.body).stmts → (memory : List ℕ) (replies : List Replied) → IsSourceLike (source program memory replies)
+  like plain memory replies =
       let ends : (n : ℕ) → IsOfSource (((source program memory replies n).behaviour).ending) =
-      λ n. subst (λ (s : Seen). IsOfSource ((s.behaviour).ending)) (sym (source_is memory replies n)) (body_ends (main.body).stmts _ _) in
+      λ n. subst (λ (s : Seen). IsOfSource ((s.behaviour).ending)) (sym (source_is memory replies n)) (body_ends program n (calls program n) (main.body).stmts plain _ _) in
       record { no_fault = λ n. (ends n).no_fault; no_stack = λ n. (ends n).no_stack }
 
-  module _ (instrs : List Instr) (code : List ℕ) (performs : Performs (in_turn (map does (main.body).stmts)) instrs) (spells : Spells code instrs) where
+  module _ (instrs : List Instr) (code : List ℕ) (plain : All (λ (x : Spanned StmtKind). IsPlain x.kind) (main.body).stmts) (performs : PerformsAll (main.body).stmts instrs) (spells : Spells code instrs) where
     -- after all its instructions the machine has done what the source does
     same : (memory : List ℕ) (stack : ℕ) (replies : List Replied) → IsLawfulMemory memory → IsLawfulStack stack → (n : ℕ) → ((source program memory replies n).behaviour).ending ≢ Fails
         → machine code [] memory stack replies (length instrs + n) ≡ (source program memory replies n).behaviour
     same memory stack replies m s n ok =
         let from = booted code [] memory stack in
-        let p = performs.does from (ready code memory stack m s) in
+        let at = performs program n (calls program n) in
+        let p = at.does from (ready code memory stack m s) in
         let is = ap (λ (s : Seen). s.behaviour) (source_is memory replies n) in
         let ok' = subst (λ (b : Behaviour). b.ending ≢ Fails) is ok in
         let end = finished (outcome program main memory replies n) (run n p.state) ok' in
-        runs instrs n from [] code performs.row spells (record { code = refl; pc = omega arith }) replies
-        ∙ p.same (run n) ([] ∷ []) (entered (cost program main) (start memory replies n)) (subst (λ (b : Behaviour). b.ending ≢ Fails) (sym end) ok')
+        runs instrs n from [] code at.row spells (record { code = refl; pc = omega arith }) replies
+        ∙ p.same (run n) ([] ∷ []) (begun program main memory replies n) (subst (λ (b : Behaviour). b.ending ≢ Fails) (sym end) ok')
         ∙ end ∙ sym is
 
     forward : (memory : List ℕ) (stack : ℕ) (replies : List Replied) → IsLawfulMemory memory → IsLawfulStack stack → ForwardInTime stack (source program memory replies) (machine code [] memory stack replies)
@@ -98,7 +111,7 @@ module _ (program : Program) (main : Function) (functions : program.functions �
       code = code;
       names = [];
       layout = is;
-      agree = λ memory stack replies m s. agrees stack (source program memory replies) (machine code [] memory stack replies) (steady code [] memory stack replies) (like memory replies) (forward memory stack replies m s);
+      agree = λ memory stack replies m s. agrees stack (source program memory replies) (machine code [] memory stack replies) (steady code [] memory stack replies) (like plain memory replies) (forward memory stack replies m s);
     }
 
 -- the code may stand in an image
@@ -120,6 +133,6 @@ lawful {program} {main} m shaped instrs code short spells =
 
 -- The image of the code of main's statements is faithful to the program.
 pub compiled : {program : Program} {main : Function} {stmts : List (Spanned StmtKind)} → IsMain program main stmts → (instrs : List Instr) (code image : List ℕ)
-    → Performs (in_turn (map does stmts)) instrs → Spells code instrs → ImageOf image code [] None → Faithful program image None
+    → PerformsAll stmts instrs → Spells code instrs → ImageOf image code [] None → Faithful program image None
 compiled {program} {main} m instrs code image performs spells is =
-    faithful program main m.functions m.name instrs code (subst (λ ss. Performs (in_turn (map does ss)) instrs) m.body performs) spells image is
+    faithful program main m.functions m.name m.params instrs code (subst (All (λ (x : Spanned StmtKind). IsPlain x.kind)) m.body m.plain) (subst (λ ss. PerformsAll ss instrs) m.body performs) spells image is

@@ -1,11 +1,13 @@
 -- When instructions do what statements of the source mean.
-use Rattle.std.specs.Prelude.{◌≡◌, ◌≢◌, ◌⊎◌, ◌+◌, ◌≤◌, List, ◌++◌, length}
+use Rattle.std.specs.Prelude.{◌≡◌, ◌≢◌, ◌⊎◌, ℕ, ◌+◌, ◌≤◌, List, ◌++◌, length, map}
 use Rattle.std.specs.List.{All}
 use Rattle.pan_base.specs.Events.{Replied, Behaviour, Fails}
 use Rattle.pan_control.specs.World.{World}
-use Rattle.pan_control.specs.Control.{Outcome, Normal, left}
-use Rattle.pan_tree.specs.Value.{Value, Scopes}
-use Rattle.pan_tree.specs.Meaning.{Does, seen}
+use Rattle.pan_control.specs.Control.{Outcome, Normal, Callee, in_turn, left}
+use Rattle.pan_tree.specs.Value.{Value}
+use Rattle.pan_tree.specs.Meaning.{Scopes, Does, run_kind, seen}
+use Rattle.pan_tree.specs.declared.program.Program.{Program}
+use Rattle.pan_tree.specs.declared.spanned.Spanned.{Spanned}
 use Rattle.pan_tree.specs.declared.syntax.StmtKind.{StmtKind}
 use Rattle.straight_form.specs.Form.{IsStore, IsReturn}
 use Rattle.riscv_isa.specs.declared.instr.Instr.{Instr}
@@ -50,3 +52,13 @@ pub record Grows (meaning : Does) (old new : List Instr) : Type 0 where
   pub grown : new ≡ old ++ added
   pub short : length added ≤ 32
   pub performs : Performs meaning added
+
+-- ---- in every program
+
+-- the code has grown by instructions that do what the statement does in any program, with any bounds and callees
+abbrev pub GrowsBy : StmtKind → List Instr → List Instr → Type 0
+GrowsBy k old new = (p : Program) (d : ℕ) (callee : Callee (List Value) Value) → Grows (run_kind p d callee k) old new
+
+-- the instructions do what the statements do, one after another
+abbrev pub PerformsAll : List (Spanned StmtKind) → List Instr → Type 0
+PerformsAll stmts code = (p : Program) (d : ℕ) (callee : Callee (List Value) Value) → Performs (in_turn (map (λ s. run_kind p d callee s.kind) stmts)) code

@@ -1,8 +1,7 @@
 //! The word that a sum gives.
 
 ghost use Rattle.std.specs.Prelude.{◌≡◌, ℕ, List, Some};
-ghost use Rattle.pan_tree.specs.Value.{Scopes};
-ghost use Rattle.pan_tree.specs.Meaning.{word};
+ghost use Rattle.pan_tree.specs.Meaning.{Scopes, word};
 ghost use Rattle.straight_form.specs.Form.{IsNumber, IsSum};
 
 use pan_tree::{Expr, ExprKind};

@@ -1,12 +1,10 @@
 //! The instructions of statements.
 
-ghost use Rattle.std.specs.Prelude.{◌≡◌, ℕ, List, ◌*◌, ◌≤◌, length, map, OnOk, IfOk};
+ghost use Rattle.std.specs.Prelude.{◌≡◌, ℕ, List, ◌*◌, ◌≤◌, length, OnOk, IfOk};
 ghost use Rattle.std.specs.List.{All};
 ghost use Rattle.pan_base.specs.declared.events.Size.TheVariants.{B8};
-ghost use Rattle.pan_control.specs.Control.{in_turn};
-ghost use Rattle.pan_tree.specs.Meaning.{run_kind};
 ghost use Rattle.straight_form.specs.Form.{IsSum};
-ghost use Rattle.straight_compiler.specs.Performs.{IsPlain, Performs, Grows};
+ghost use Rattle.straight_compiler.specs.Performs.{IsPlain, GrowsBy, PerformsAll};
 
 use crate::constants::push_constant;
 use crate::evaluating::evaluate;
@@ -31,7 +29,7 @@ fn push_store(code: &mut List<Instr>, address: &Expr, value: &Expr) -> Result<()
     requires address { IsSum address.now.kind }
     requires value { IsSum value.now.kind }
     ensures { OnOk result
-        (Grows (run_kind (StmtKind.SharedStore B8 address.now value.now)) code.old code.new) }
+        (GrowsBy (StmtKind.SharedStore B8 address.now value.now) code.old code.new) }
 {
     push_constant(code, ADDRESS, evaluate(address))?;
     push_constant(code, VALUE, evaluate(value))?;
@@ -47,7 +45,7 @@ fn push_store(code: &mut List<Instr>, address: &Expr, value: &Expr) -> Result<()
 /// Puts at the end of the code the instructions that end the program with a value.
 fn push_return(code: &mut List<Instr>, value: &Expr) -> Result<(), NoMemory>
     requires { IsSum value.now.kind }
-    ensures { OnOk result (Grows (run_kind (StmtKind.Return value.now)) code.old code.new) }
+    ensures { OnOk result (GrowsBy (StmtKind.Return value.now) code.old code.new) }
 {
     push_constant(code, RETURNED, evaluate(value))?;
     push_constant(code, END, 0)?;
@@ -59,7 +57,7 @@ fn push_return(code: &mut List<Instr>, value: &Expr) -> Result<(), NoMemory>
 /// Puts the instructions of a statement at the end of the code.
 fn push_stmt(code: &mut List<Instr>, stmt: &Stmt) -> Result<(), NoMemory>
     requires { IsPlain stmt.now.kind }
-    ensures { OnOk result (Grows (run_kind stmt.now.kind) code.old code.new) }
+    ensures { OnOk result (GrowsBy stmt.now.kind code.old code.new) }
 {
     match &stmt.kind {
         StmtKind::Return(value) => push_return(code, value),
@@ -71,7 +69,7 @@ fn push_stmt(code: &mut List<Instr>, stmt: &Stmt) -> Result<(), NoMemory>
 /// The instructions of statements, one after another.
 pub fn generate(alloc: Global, stmts: &[Stmt]) -> Result<List<Instr>, NoMemory>
     requires { All (λ s. IsPlain s.kind) stmts.now }
-    ensures performs { IfOk result (λ code. Performs (in_turn (map (λ s. run_kind s.kind) stmts.now)) code) }
+    ensures performs { IfOk result (λ code. PerformsAll stmts.now code) }
     ensures short { IfOk result (λ code. length code ≤ 32 * length stmts.now) }
 {
     let mut code = List::new(alloc);

@@ -1,4 +1,7 @@
 use Rattle.std.proofs.Common.{subst}
+use Rattle.straight_compiler.proofs.InRanges.{all_in_range}
+use Rattle.pan_base.specs.Events.{Spent}
+use Rattle.pan_control.specs.Control.{Over}
 use Rattle.straight_compiler.specs.Spells.{Spells}
 use Rattle.straight_compiler.proofs.Plain.{main_is}
 use Rattle.straight_compiler.proofs.Whole.{lawful, compiled}
@@ -8,6 +11,9 @@ pub generate-requires : goal.generate-requires
 generate-requires c =
     let main = main_is c.args.program.now c.requires.form c.as_slice.result.now c.index-as_slice-0.result c.as_slice-2.result.now c.as_slice.ensures c.index-as_slice-0.is c.as_slice-2.ensures in
     main.plain
+
+pub spell-requires : goal.spell-requires
+spell-requires c = all_in_range c.in_ok-instrs.instrs c.as_slice-3.result.now c.as_slice-3.ensures (c.in_ok-instrs.ensures.performs c.args.program.now 0 (λ f xs w. Over Spent w)).row
 
 pub image_of-requires : goal.image_of-requires
 image_of-requires c =

@@ -1,6 +1,5 @@
 use Rattle.std.proofs.Common.{◌≡◌, ℕ, List, Some, map, drop}
-use Rattle.pan_tree.specs.Value.{Scopes}
-use Rattle.pan_tree.specs.Meaning.{chain, word}
+use Rattle.pan_tree.specs.Meaning.{Scopes, chain, word}
 use Rattle.straight_compiler.proofs.Chains.{given}
 use Rattle.straight_compiler.proofs.evaluating.evaluate.Given as goal
 
