@@ -6,6 +6,7 @@ ghost use Rattle.pan_base.specs.declared.tokens.Sign.TheVariants as signs;
 ghost use Rattle.pan_base.specs.Tokens as kinds;
 ghost use Rattle.pan_tree.specs.Grammar.{Within};
 ghost use Rattle.pan_tree.specs.Grammar as grammar;
+ghost use Rattle.pan_tree.specs.Check.{HasLawfulNames};
 ghost use Rattle.pan_parser.specs.Machine as machine;
 ghost use Rattle.pan_parser.specs.Follow.{Halts};
 ghost use Rattle.pan_parser.specs.Reading.{left, IsOne, Reads, Stops};
@@ -191,6 +192,7 @@ fn put(program: &mut Program, item: Item) -> Result<(), AllocError>
 /// The program that all the tokens spell.
 pub fn program(alloc: Global, tokens: &Tokens<'_>) -> Result<Program, ParseError>
     ensures tree { IfOk result (λ p. grammar.Tree tokens.now.tokens p) }
+    ensures lawful { IfOk result HasLawfulNames }
     ensures err { IfErr result (λ e. Halts tokens.now.source_len tokens.now.tokens e) }
 {
     let mut program = Program {

@@ -3,6 +3,7 @@
 ghost use Rattle.std.specs.Prelude.{◌≡◌, ◌⊎◌, IfOk, IfErr};
 ghost use Rattle.pan_tree.specs.declared.program.Program.{Program as IsProgram};
 ghost use Rattle.pan_tree.specs.Grammar.{Tree};
+ghost use Rattle.pan_tree.specs.Check.{HasLawfulNames};
 ghost use Rattle.pan_parser.specs.declared.error.ParseError.{ParseError as IsParseError};
 ghost use Rattle.pan_parser.specs.Answers.{Refusal, Gives};
 
@@ -22,6 +23,8 @@ use std::alloc::Global;
 pub fn parse(alloc: Global, tokens: &Tokens<'_>) -> Result<Program, ParseError>
     // The tokens spell the program, and nest no deeper than the limit.
     ensures tree { IfOk result (λ p. Tree tokens.now.tokens p) }
+    // Its foreign names are spelled as names or reserved words, and are neither `base` nor `biw`.
+    ensures lawful { IfOk result HasLawfulNames }
     // There is no other, and none that they spell is refused, but for memory.
     ensures only { (p : IsProgram) → Tree tokens.now.tokens p → Gives result p }
 

@@ -1,5 +1,6 @@
 use Rattle.std.proofs.Common.{arith}
 use Rattle.pan_parser.proofs.ItemTrees.{items_none, items_more, items_done}
+use Rattle.pan_parser.proofs.ForeignNames.{lawful_tree}
 use Rattle.pan_parser.proofs.items.program.Goals as goal
 
 pub items-init : goal.items-init
@@ -10,3 +11,6 @@ items-preserved c = rw c.in_ok-put.ensures (items_more _ _ _ _ _ c.items.invaria
 
 pub returns-clause-tree : goal.returns-clause-tree
 returns-clause-tree c = items_done _ _ _ c.items.invariant (omega arith)
+
+pub returns-clause-lawful : goal.returns-clause-lawful
+returns-clause-lawful c = lawful_tree c.args.tokens.now.tokens c.items.program (items_done _ _ _ c.items.invariant (omega arith)) c.len.ensures.lawful.spelled

@@ -9,6 +9,7 @@ returns-in_err-program c =
     let p = err_from_is_err_and c.from_residual.result c.from_residual.ensures.1 in
     rw (p.1, p.2) (record {
       tree = tt;
+      lawful = tt;
       only = λ p d. no_halt c.args.tokens.now.tokens c.args.tokens.now.source_len _ p d c.in_err-program.ensures.err;
       refused = refusal_at c.args.tokens.now.tokens c.args.tokens.now.source_len _ c.in_err-program.ensures.err;
       exact = λ e r. refused_answer c.args.tokens.now.tokens c.args.tokens.now.source_len _ e c.in_err-program.ensures.err r;
