@@ -1,21 +1,20 @@
 -- The statements of a straight-line program, and how many they are.
-use Rattle.std.proofs.Common.{◌≡◌, ℕ, ◌+◌, ◌*◌, ◌≤◌, refl, sym, ap, ◌∙◌, subst, List, [], ◌∷◌, length, map, sum, get_or, arith, inl, inr}
+use Rattle.std.proofs.Common.{◌≡◌, ◌*◌, ◌≤◌, sym, ap, ◌∙◌, subst, List, [], ◌∷◌, length, get_or, inl, inr}
 use Rattle.std.specs.Prelude.{codes}
 use Rattle.std.specs.List.{All}
-use Rattle.std.proofs.lemmas.List.Elements.{All-nil, All-cons, All-append, All-head, All-tail}
+use Rattle.std.proofs.lemmas.List.Elements.{All-nil, All-cons, All-append}
 use Rattle.pan_base.specs.declared.events.Size.{Size}
 use Rattle.pan_base.specs.declared.events.Size.TheVariants.{B8}
 use Rattle.pan_tree.specs.declared.syntax.ExprKind.{ExprKind}
 use Rattle.pan_tree.specs.declared.syntax.StmtKind.TheVariants as stmt
-use Rattle.std.proofs.lemmas.List.Sums.{sum_by-cons}
 use Rattle.pan_tree.specs.declared.spanned.Spanned.{Spanned}
 use Rattle.pan_tree.specs.declared.syntax.StmtKind.{StmtKind}
 use Rattle.pan_tree.specs.declared.program.Function.{Function}
 use Rattle.pan_tree.specs.declared.program.Program.{Program}
-use Rattle.pan_tree.specs.Weight.{stmt_kind_weight, stmt_weight, function_weight, weight}
+use Rattle.pan_tree.specs.Check.{function_weight}
 use Rattle.straight_form.specs.Form.{IsSum, IsStore, IsBody, IsStraight}
 use Rattle.straight_form.proofs.Forms.{same_return, same_store}
-use Rattle.straight_compiler.proofs.Statements.{store_weight, return_weight}
+use Rattle.straight_compiler.proofs.Weights.{few}
 use Rattle.straight_compiler.specs.Performs.{IsPlain}
 
 abbrev Plain : Spanned StmtKind → Type 0
@@ -28,18 +27,9 @@ plain_stores : (ss : List (Spanned StmtKind)) → All Stores ss → All Plain ss
 unfolding Stores
 plain_stores ss all k d small = inl (all k d small)
 
-plain_body : (stmts : List (Spanned StmtKind)) → IsBody stmts → All Plain stmts
+pub plain_body : (stmts : List (Spanned StmtKind)) → IsBody stmts → All Plain stmts
 unfolding Stores
 plain_body stmts (ss, last, is, stores, return) = subst (All Plain) (sym is) (All-append Plain ss (last ∷ []) (plain_stores ss stores) (All-cons Plain last [] (inr return) (All-nil Plain)))
-
-heavy : (k : StmtKind) → IsPlain k → 4 ≤ stmt_kind_weight k
-heavy k (inl (a, e, is, p, q)) = omega (arith, ap stmt_kind_weight is ∙ store_weight B8 a e)
-heavy k (inr (e, is, p)) = omega (arith, ap stmt_kind_weight is ∙ return_weight e)
-
-heavy_all : (stmts : List (Spanned StmtKind)) → All Plain stmts → 4 * length stmts ≤ sum (map stmt_weight stmts)
-heavy_all [] all = omega arith
-heavy_all (s ∷ ss) all =
-    omega (arith, heavy s.kind (All-head Plain s ss all), heavy_all ss (All-tail Plain s ss all), sum_by-cons (λ (n : ℕ). n) (stmt_weight s) (map stmt_weight ss))
 
 return_no_store : (x a e : Spanned ExprKind) (n : Size) → stmt.Return x ≡ stmt.SharedStore n a e → ⊥
 return_no_store x a e n is = cc
@@ -61,12 +51,7 @@ pub record IsMain (program : Program) (main : Function) (stmts : List (Spanned S
   pub name : main.name ≡ codes "main"
   pub body : stmts ≡ (main.body).stmts
   pub plain : All (λ s. IsPlain s.kind) stmts
-  pub few : 4 * length stmts ≤ weight program
-
-few : (program : Program) (main : Function) → program.functions ≡ main ∷ [] → All Plain (main.body).stmts → 4 * length (main.body).stmts ≤ weight program
-few program main is plain =
-    let e : weight program ≡ 0 + function_weight main = ap (λ fs. sum (map function_weight fs)) is in
-    omega (arith, heavy_all (main.body).stmts plain)
+  pub few : 4 * length stmts ≤ function_weight program main
 
 pub main_is : (program : Program) → IsStraight program → (items : List Function) (first : Function) (stmts : List (Spanned StmtKind))
     → items ≡ program.functions → first ≡ get_or items 0 first → stmts ≡ (first.body).stmts → IsMain program first stmts
@@ -80,5 +65,5 @@ main_is program (main, none, one, h) items first stmts all is body =
       name = ap (λ (f : Function). f.name) same ∙ h.name;
       body = body;
       plain = plain;
-      few = subst (λ ss. 4 * length ss ≤ weight program) (sym body) (few program first functions (subst (All Plain) body plain));
+      few = subst (λ ss. 4 * length ss ≤ function_weight program first) (sym body) (few program first (subst (All Plain) body plain));
     }

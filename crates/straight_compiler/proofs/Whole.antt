@@ -1,5 +1,5 @@
 -- The image of the instructions of main's body is faithful to the program.
-use Rattle.std.proofs.Common.{◌≡◌, ◌≢◌, ℕ, ◌+◌, ◌*◌, ◌^◌, ◌≤◌, refl, sym, ap, ◌∙◌, subst, List, [], ◌∷◌, length, map, Option, Some, None, true, cond, arith, inl}
+use Rattle.std.proofs.Common.{◌≡◌, ◌≢◌, ℕ, ◌+◌, ◌*◌, ◌≤◌, refl, sym, ap, ◌∙◌, subst, List, [], ◌∷◌, length, map, Option, Some, None, true, cond, arith, inl}
 use Rattle.std.specs.Prelude.{codes, find}
 use Rattle.std.specs.Str.{bytes_eq}
 use Rattle.std.proofs.lemmas.List.{length-set, length-replicate}
@@ -12,7 +12,7 @@ use Rattle.pan_tree.specs.declared.syntax.StmtKind.{StmtKind}
 use Rattle.pan_tree.specs.declared.program.Function.{Function}
 use Rattle.pan_tree.specs.declared.program.Program.{Program}
 use Rattle.pan_tree.specs.Value.{Value, Scopes}
-use Rattle.pan_tree.specs.Weight.{cost, weight}
+use Rattle.pan_tree.specs.Check.{cost, IsWellShaped}
 use Rattle.pan_tree.specs.Meaning.{Does, run_kind, body_of, function, seen, start, source}
 use Rattle.riscv_isa.specs.declared.instr.Instr.{Instr}
 use Rattle.riscv_isa.specs.declared.place.Region.TheVariants as region
@@ -28,6 +28,7 @@ use Rattle.straight_compiler.specs.Performs.{shown_after, IsReady, Performs}
 use Rattle.straight_compiler.proofs.Steps.{runs}
 use Rattle.straight_compiler.proofs.Spelling.{spelled_length, spelled_bytes}
 use Rattle.straight_compiler.proofs.Plain.{IsMain}
+use Rattle.straight_compiler.proofs.Weights.{light}
 use Rattle.straight_compiler.proofs.SourceEnds.{IsOfSource, body_ends}
 
 -- where a body that ends normally fails, its outcome is all that is seen
@@ -55,8 +56,8 @@ abbrev does : Spanned StmtKind → Does
 does s = run_kind s.kind
 
 -- what main's body does, from the world at the start
-abbrev outcome : Function → List ℕ → List Replied → ℕ → Outcome Scopes Value
-outcome main memory replies n = in_turn (map does (main.body).stmts) ([] ∷ []) (entered (cost main) (start memory replies n))
+abbrev outcome : Program → Function → List ℕ → List Replied → ℕ → Outcome Scopes Value
+outcome program main memory replies n = in_turn (map does (main.body).stmts) ([] ∷ []) (entered (cost program main) (start memory replies n))
 
 module _ (program : Program) (main : Function) (functions : program.functions ≡ main ∷ []) (name : main.name ≡ codes "main") where
   found : function (codes "main") program ≡ Some main
@@ -64,9 +65,9 @@ module _ (program : Program) (main : Function) (functions : program.functions �
       let named : bytes_eq main.name (codes "main") ≡ true = ap (λ n. bytes_eq n (codes "main")) name in
       ap (λ fs. find (λ (f : Function). bytes_eq f.name (codes "main")) fs) functions ∙ ap (λ b. cond b (Some main) None) named
 
-  source_is : (memory : List ℕ) (replies : List Replied) (n : ℕ) → source program memory replies n ≡ seen (left (outcome main memory replies n))
+  source_is : (memory : List ℕ) (replies : List Replied) (n : ℕ) → source program memory replies n ≡ seen (left (outcome program main memory replies n))
   source_is memory replies n =
-      ap (λ (o : Option Function). seen (with_value o (start memory replies n) (λ f. body_of f (start memory replies n)))) found
+      ap (λ (o : Option Function). seen (with_value o (start memory replies n) (λ f. body_of program f (start memory replies n)))) found
 
   like : (memory : List ℕ) (replies : List Replied) → IsSourceLike (source program memory replies)
   like memory replies =
@@ -83,9 +84,9 @@ module _ (program : Program) (main : Function) (functions : program.functions �
         let p = performs.does from (ready code memory stack m s) in
         let is = ap (λ (s : Seen). s.behaviour) (source_is memory replies n) in
         let ok' = subst (λ (b : Behaviour). b.ending ≢ Fails) is ok in
-        let end = finished (outcome main memory replies n) (run n p.state) ok' in
+        let end = finished (outcome program main memory replies n) (run n p.state) ok' in
         runs instrs n from [] code performs.row spells (record { code = refl; pc = omega arith }) replies
-        ∙ p.same (run n) ([] ∷ []) (entered (cost main) (start memory replies n)) (subst (λ (b : Behaviour). b.ending ≢ Fails) (sym end) ok')
+        ∙ p.same (run n) ([] ∷ []) (entered (cost program main) (start memory replies n)) (subst (λ (b : Behaviour). b.ending ≢ Fails) (sym end) ok')
         ∙ end ∙ sym is
 
     forward : (memory : List ℕ) (stack : ℕ) (replies : List Replied) → IsLawfulMemory memory → IsLawfulStack stack → ForwardInTime stack (source program memory replies) (machine code [] memory stack replies)
@@ -101,10 +102,11 @@ module _ (program : Program) (main : Function) (functions : program.functions �
     }
 
 -- the code may stand in an image
-pub lawful : {program : Program} {main : Function} {stmts : List (Spanned StmtKind)} → IsMain program main stmts → weight program ≤ 16384 → (instrs : List Instr) (code : List ℕ)
+pub lawful : {program : Program} {main : Function} {stmts : List (Spanned StmtKind)} → IsMain program main stmts → IsWellShaped program → (instrs : List Instr) (code : List ℕ)
     → length instrs ≤ 32 * length stmts → Spells code instrs → IsLawfulImage code [] None
-lawful m light instrs code short spells =
+lawful {program} {main} m shaped instrs code short spells =
     let few = m.few in
+    let most = light program main m.functions shaped in
     let size = spelled_length instrs code spells in
     record {
       whole = omega arith;

@@ -1,7 +1,7 @@
 //! From the tree of a program to its image.
 
-ghost use Rattle.std.specs.Prelude.{◌≤◌, None, IfOk};
-ghost use Rattle.pan_tree.specs.Weight.{weight};
+ghost use Rattle.std.specs.Prelude.{None, IfOk};
+ghost use Rattle.pan_tree.specs.Check.{IsWellShaped};
 ghost use Rattle.pan_agree.specs.Faithful.{Faithful};
 ghost use Rattle.straight_form.specs.Form.{IsStraight};
 
@@ -12,10 +12,10 @@ use pan_base::{Blob, NoMemory};
 use pan_tree::Program;
 use std::alloc::Global;
 
-/// The image of a straight-line program, with no bound. `NoMemory` is the one error.
+/// The image of a straight-line program that breaks no rule, with no bound. `NoMemory` is the one error.
 pub fn compile(alloc: Global, program: &Program) -> Result<Blob, NoMemory>
     requires form { IsStraight program.now }
-    requires light { weight program.now ≤ 16384 }
+    requires shaped { IsWellShaped program.now }
     ensures { IfOk result (λ image. Faithful program.now image None) }
 {
     let main = &program.functions.as_slice()[0];

@@ -1,12 +1,13 @@
 //! The images of known programs, and the words of known constants.
 
+ghost use Rattle.std.specs.Prelude.{◌≡◌, ℕ, ◌+◌, ◌≤◌, [], ◌∷◌, map, IfOk};
+ghost use Rattle.pan_tree.specs.Check.{Scopes, Context, State, judged, do_kind, doing, in_order};
+
 use crate::compiling::compile;
 use crate::constants::push_constant;
 use crate::words::spell;
 use pan_base::{BinOp, Blob, Boxed, List, NoMemory, Size, Span, Text, single};
-use pan_tree::{
-    BlockOf, Expr, ExprKind, Function, Program, Shape, Spanned, Stmt, StmtKind, weight,
-};
+use pan_tree::{BlockOf, Expr, ExprKind, Function, Program, Shape, Spanned, Stmt, StmtKind};
 use std::alloc::Global;
 use std::test::Fail;
 use straight_form::is_straight;
@@ -44,15 +45,33 @@ const CONSTANTS: [(u64, &[u32]); 6] = [
 ];
 
 /// The expression of this number.
-fn number(number: u64) -> Expr {
+fn number(number: u64) -> Expr
+    ensures { (v : Scopes) → (judged result v).weight ≡ 2 }
+{
     Spanned {
         kind: ExprKind::Number(number),
         span: NOWHERE,
     }
 }
 
+/// `first + second + third`
+fn sum(alloc: Global, first: u64, second: u64, third: u64) -> Result<Expr, NoMemory>
+    ensures { IfOk result (λ e. (v : Scopes) → (judged e v).weight ≡ 10) }
+{
+    let mut terms = single(alloc, (BinOp::Add, number(second)))?;
+    terms.push((BinOp::Add, number(third)))?;
+    let first = Boxed::new(alloc, number(first))?;
+    Ok(Spanned {
+        kind: ExprKind::Chain(first, terms),
+        span: NOWHERE,
+    })
+}
+
 /// `return value;`
-fn returning(value: Expr) -> Stmt {
+fn returning(value: Expr) -> Stmt
+    ensures { (c : Context) (place : ℕ) (t : State) →
+        (do_kind result.kind c place t).weight ≡ 4 + (judged value t.scopes).weight }
+{
     Spanned {
         kind: StmtKind::Return(value),
         span: NOWHERE,
@@ -60,7 +79,10 @@ fn returning(value: Expr) -> Stmt {
 }
 
 /// `!st64 address, value;`
-fn storing(address: u64, value: u64) -> Stmt {
+fn storing(address: u64, value: u64) -> Stmt
+    ensures { (c : Context) (place : ℕ) (t : State) →
+        (do_kind result.kind c place t).weight ≡ 8 }
+{
     Spanned {
         kind: StmtKind::SharedStore(Size::B8, number(address), number(value)),
         span: NOWHERE,
@@ -68,7 +90,9 @@ fn storing(address: u64, value: u64) -> Stmt {
 }
 
 /// The program whose main function has these statements.
-fn program(alloc: Global, stmts: List<Stmt>) -> Result<Program, NoMemory> {
+fn program(alloc: Global, stmts: List<Stmt>) -> Result<Program, NoMemory>
+    ensures { IfOk result (λ p. map (λ f. (f.body).stmts) p.functions ≡ stmts ∷ []) }
+{
     let main = Function {
         name: Text::from_str(alloc, "main")?,
         params: List::new(alloc),
@@ -82,14 +106,13 @@ fn program(alloc: Global, stmts: List<Stmt>) -> Result<Program, NoMemory> {
     })
 }
 
-/// The image of the program whose main function has these statements.
-fn image(alloc: Global, stmts: List<Stmt>) -> Result<Blob, Fail> {
+/// The image of the program whose main function has these statements, which are light.
+fn image(alloc: Global, stmts: List<Stmt>) -> Result<Blob, Fail>
+    requires { (c : Context) (t : State) → (in_order (map doing stmts) c t).weight ≤ 64 }
+{
     let program = program(alloc, stmts)?;
     if !is_straight(&program) {
         return Err("not straight".into());
-    }
-    if weight(&program) > 16_384 {
-        return Err("too heavy".into());
     }
     let image = compile(alloc, &program)?;
     Ok(image)
@@ -111,13 +134,8 @@ fn makes_images(rt: HostRuntime) -> Result<(), Fail> {
 #[test]
 fn evaluates_sums(rt: HostRuntime) -> Result<(), Fail> {
     let alloc = rt.alloc();
-    let mut terms = single(alloc, (BinOp::Add, number(5)))?;
-    terms.push((BinOp::Add, number(u64::MAX)))?;
-    let sum = Spanned {
-        kind: ExprKind::Chain(Boxed::new(alloc, number(3))?, terms),
-        span: NOWHERE,
-    };
-    let built = image(alloc, single(alloc, returning(sum))?)?;
+    let value = sum(alloc, 3, 5, u64::MAX)?;
+    let built = image(alloc, single(alloc, returning(value))?)?;
     assert_eq!(rt; built.as_slice(), RETURN_7.as_slice());
     Ok(())
 }

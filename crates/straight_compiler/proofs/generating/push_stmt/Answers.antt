@@ -1,4 +1,3 @@
-use Rattle.std.proofs.Common.{sym, subst, ◌∙◌, ap}
 use Rattle.straight_compiler.proofs.Plain.{plain_return, plain_store}
 use Rattle.straight_compiler.proofs.generating.push_stmt.Goals as goal
 
