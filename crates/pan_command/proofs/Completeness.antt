@@ -9,7 +9,7 @@ use Rattle.pan_command.specs.declared.status.Status.TheVariants as status
 use Rattle.pan_command.specs.Served.{IsServed, Refuses, source_line}
 use Rattle.pan_command.specs.declared.error.BuildError.{BuildError}
 use Rattle.pan_command.specs.Status.{code, IsCompileCode}
-use Rattle.pan_command.specs.Words.{AreLawful}
+use Rattle.pan_command.specs.Words.{IsLawful, AreLawful}
 use Rattle.pan_command.specs.Outside.{Outside, Holds, Lacks, NoFault}
 use Rattle.pan_command.specs.Compile.{CompileEnds, Compiled, Starved}
 use Rattle.pan_command.specs.Command.{Ends}
@@ -29,12 +29,16 @@ not_lacks (Some f) all name bytes told there h =
     let k : all name ≡ None = sym (ap (λ (f : Files). f name) g) ∙ h in
     cc
 
-not_held : (o : Option Files) (all : Files) (name bytes : List ℕ) → o ≡ Some all → all name ≡ None → Holds o name bytes → ⊥
+pub not_held : (o : Option Files) (all : Files) (name bytes : List ℕ) → o ≡ Some all → all name ≡ None → Holds o name bytes → ⊥
 not_held None all name bytes told gone h = cc
 not_held (Some f) all name bytes told gone h =
     let g : f ≡ all = cc in
     let k : all name ≡ Some bytes = sym (ap (λ (f : Files). f name) g) ∙ h in
     cc
+
+-- no words are an action's with one name and an action's with two
+pub one_not_two : (action other : List ℕ) (words : List (List ℕ)) (a b c : List ℕ) → IsLawful action words a → AreLawful other words b c → ⊥
+one_not_two action other words a b c p q = let e = sym p.all ∙ q.all in cc
 
 -- no words are those of both actions
 pub other_action : (words : List (List ℕ)) (a b c d : List ℕ) → AreLawful (codes "run") words a b → AreLawful (codes "compile") words c d → ⊥
@@ -87,8 +91,9 @@ starved_at before after source image status.NoMemory h e = h
 
 -- with these lawful words the call ends as `compile` on these names does
 pub compiles : (before after : Outside) (source image : List ℕ) (words : List (List ℕ)) (s : Status) → AreLawful (codes "compile") words source image → Ends words before after s → CompileEnds source image before after s
-compiles before after source image words s lawful (inl p) = absurd ((p.0 source image).0 lawful)
-compiles before after source image words s lawful (inr (inr p)) = absurd (other_action words p.0 p.1 source image p.2 lawful)
+compiles before after source image words s lawful (inl p) = absurd ((p.0).no_compile source image lawful)
+compiles before after source image words s lawful (inr (inr (inl p))) = absurd (other_action words p.0 p.1 source image p.2 lawful)
+compiles before after source image words s lawful (inr (inr (inr p))) = absurd (one_not_two (codes "check") (codes "compile") words p.0 source image p.1 lawful)
 compiles before after source image words s lawful (inr (inl p)) =
     let e = same_names (codes "compile") words p.0 p.1 source image p.2 lawful in
     subst (λ i. CompileEnds source i before after s) e.1 (subst (λ n. CompileEnds n p.1 before after s) e.0 p.3)

@@ -9,3 +9,5 @@ pub mod UsedReplies
 pub mod WordLemmas
 pub mod WrongImage
 pub mod Reasons
+pub mod Refusals
+pub mod CheckCompleteness

@@ -16,13 +16,14 @@ use Rattle.pan_command.specs.Words.{AreLawful}
 use Rattle.pan_command.specs.Outside.{Outside, NoFault}
 use Rattle.pan_command.specs.Run.{RunEnds, RunCases, FileUnread, NoImage, ScriptRefused, ImageRead, ScriptRead, ran_with, behaviour_of, run_memory, run_stack, run_steps}
 use Rattle.pan_command.specs.Command.{Ends}
-use Rattle.pan_command.proofs.Completeness.{same_bytes, not_lacks, other_action, same_names}
+use Rattle.pan_command.proofs.Completeness.{same_bytes, not_lacks, one_not_two, other_action, same_names}
 
 -- with these lawful words the call ends as `run` on these names does
 pub runs_so : (before after : Outside) (image script : List ℕ) (words : List (List ℕ)) (s : Status) → AreLawful (codes "run") words image script → Ends words before after s → RunEnds image script before after s
-runs_so before after image script words s lawful (inl p) = absurd ((p.0 image script).1 lawful)
+runs_so before after image script words s lawful (inl p) = absurd ((p.0).no_run image script lawful)
 runs_so before after image script words s lawful (inr (inl p)) = absurd (other_action words image script p.0 p.1 lawful p.2)
-runs_so before after image script words s lawful (inr (inr p)) =
+runs_so before after image script words s lawful (inr (inr (inr p))) = absurd (one_not_two (codes "check") (codes "run") words p.0 image script p.1 lawful)
+runs_so before after image script words s lawful (inr (inr (inl p))) =
     let e = same_names (codes "run") words p.0 p.1 image script p.2 lawful in
     subst (λ n. RunEnds image n before after s) e.1 (subst (λ n. RunEnds n p.1 before after s) e.0 p.3)
 

@@ -5,7 +5,7 @@ use Rattle.pan_tree.specs.declared.syntax.ExprKind.TheVariants as expr
 use Rattle.pan_tree.specs.Value.{Word, Value, Scopes}
 use Rattle.pan_tree.specs.Meaning.{Does as StmtDoes, source, seen, start}
 use Rattle.pan_control.specs.World.{World, entered}
-use Rattle.pan_tree.specs.Weight.{cost}
+use Rattle.pan_tree.specs.Check.{cost}
 use Rattle.pan_control.specs.Control.{Outcome, Normal, Returned, and_then, with_value, left}
 use Rattle.riscv_isa.specs.Step.{Over, step, reg}
 use Rattle.riscv_isa.specs.Decoded.{decoded}
@@ -19,7 +19,7 @@ use Rattle.image_file.proofs.WrittenLaws.{same_image}
 use Rattle.pan_command.specs.Sample.{nowhere, main_of_seven, returns_seven, exits_at_once}
 
 begun : World
-begun = entered (cost main_of_seven) (start [] [] 1)
+begun = entered (cost returns_seven main_of_seven) (start [] [] 1)
 
 main_then : Option Value → Outcome Scopes Value
 main_then o = and_then (with_value o begun (λ a. Returned a begun)) (λ v w. Normal v w)

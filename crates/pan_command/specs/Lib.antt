@@ -5,6 +5,7 @@ pub mod Words
 pub mod Outside
 pub mod Compile
 pub mod Run
+pub mod Check
 pub mod Going
 pub mod Loading
 pub mod Command

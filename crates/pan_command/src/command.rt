@@ -6,13 +6,15 @@ ghost use Rattle.pan_base.specs.Events.{Replied, end_of};
 ghost use Rattle.pan_base.specs.Files.{Files, NoneChanged};
 ghost use Rattle.pan_base.specs.Sinks.{Took};
 ghost use Rattle.pan_tree.specs.declared.program.Program.{Program};
-ghost use Rattle.pan_command.specs.Served.{IsServed, Refuses, source_line};
+ghost use Rattle.pan_tree.specs.Check.{program_weight};
+ghost use Rattle.pan_command.specs.Served.{IsChecked, IsServed, Unchecked, Refuses, source_line};
 ghost use Rattle.pan_command.specs.declared.error.BuildError.{BuildError as IsBuildError};
 ghost use Rattle.pan_command.specs.Status.{code, end_code, IsCompileCode};
-ghost use Rattle.pan_command.specs.Words.{is_plain, AreLawful, AreUnlawful};
+ghost use Rattle.pan_command.specs.Words.{is_plain, IsLawful, AreLawful, AreUnlawful};
 ghost use Rattle.pan_command.specs.Outside.{outside, NoFault};
 ghost use Rattle.pan_command.specs.Compile.{CompileEnds, StoreEnds, Compiled, Unread, Refused, Starved};
 ghost use Rattle.pan_command.specs.Run.{RunEnds, behaviour_of};
+ghost use Rattle.pan_command.specs.Check.{CheckEnds, weight_line};
 ghost use Rattle.pan_command.specs.Command.{Ends};
 ghost use Rattle.riscv_isa.specs.Image.{ImageOf};
 ghost use Rattle.image_file.specs.Parts.{ImageParts};
@@ -20,6 +22,7 @@ ghost use Rattle.reply_file.specs.Replies.{replies_of_file};
 ghost use Rattle.pan_command.specs.declared.status.Status.{Status};
 
 use crate::building::build;
+use crate::checking::check;
 use crate::error::BuildError;
 use crate::lines::{put_line, put_source_line};
 use crate::loading::read_file;
@@ -85,6 +88,17 @@ fn is_name(word: &str) -> bool
     }
 }
 
+/// The name that follows the action, if the words are the action's.
+fn name_of<'x>(words: &'x [Text], action: &str) -> Option<&'x str>
+    ensures lawful { IfSome result (λ name. IsLawful action.now words.now name.now) }
+    ensures unlawful { IfNone result ((name : List ℕ) → ¬ IsLawful action.now words.now name) }
+{
+    match words {
+        [first, name] if first.as_str() == action && is_name(name.as_str()) => Some(name.as_str()),
+        _ => None,
+    }
+}
+
 /// The two names that follow the action, if the words are the action's.
 fn names_of<'x>(words: &'x [Text], action: &str) -> Option<(&'x str, &'x str)>
     ensures lawful { IfSome result (λ names. AreLawful action.now words.now names.0.now names.1.now) }
@@ -103,6 +117,9 @@ fn names_of<'x>(words: &'x [Text], action: &str) -> Option<(&'x str, &'x str)>
 fn act<W: Workspace, O: Sink>(alloc: Global, words: &[Text], files: &mut W, out: &mut O) -> Status
     ensures { Ends words.now (outside (W.state files.old) (O.state out.old)) (outside (W.state files.new) (O.state out.new)) result }
 {
+    if let Some(source) = name_of(words, "check") {
+        return check(alloc, source, files, out);
+    }
     if let Some((source, image)) = names_of(words, "compile") {
         return compile(alloc, source, image, files, out);
     }
@@ -118,15 +135,16 @@ fn act<W: Workspace, O: Sink>(alloc: Global, words: &[Text], files: &mut W, out:
 /// The top call: does what `words`, the command line without the program's own name, ask for, over these files and this
 /// sink, and answers the exit status.
 ///
-/// `compile SRC IMG` reads the source SRC and writes its image to IMG. `run IMG SCRIPT` reads the image IMG and the reply
-/// file SCRIPT, and runs the one over the other for at most 1,000,000 instructions, on 65,536 bytes of local memory, which
-/// are zero, and 65,536 bytes of stack. The status is
-/// - 0: the image is written, and `bound none` is put; or the run ended by an exit, and its lines are put;
+/// `check SRC` reads the source SRC and says what its program weighs. `compile SRC IMG` reads the source SRC and writes its
+/// image to IMG. `run IMG SCRIPT` reads the image IMG and the reply file SCRIPT, and runs the one over the other for at most
+/// 1,000,000 instructions, on 65,536 bytes of local memory, which are zero, and 65,536 bytes of stack. The status is
+/// - 0: the program keeps every rule, and `ok WEIGHT` is put; or the image is written, and `bound none` is put; or the run
+///   ended by an exit, and its lines are put;
 /// - 2: the words are no action's, and `usage` is put. The names may not begin with `-`;
 /// - 3: a file could not be read, and `read NAME` is put;
 /// - 4: the source is refused, and `PLACE CAUSE` is put, the place in bytes from 0 on: it has no tokens (`TooLong`,
-///   `BadByte`, `BadNumber`, `OpenComment`), they spell no program (`Syntax`, `TooDeep`), or the program isn't
-///   straight-line or weighs more than 16,384 (`0 Unsupported`);
+///   `BadByte`, `BadNumber`, `OpenComment`), they spell no program (`Syntax`, `TooDeep`), the program breaks a rule (the
+///   rule's name, as `TwoNames`), or it is to be compiled and isn't straight-line (`0 Unsupported`);
 /// - 5: the bytes of IMG are no image, and `image CAUSE` is put;
 /// - 6: a line of SCRIPT fits no rule, and `script LINE CAUSE` is put for the first;
 /// - 7: IMG could not be written, and `write IMG` is put, or a line could not be put;
@@ -168,6 +186,23 @@ pub fn panc<W: Workspace, O: Sink>(alloc: Global, words: &[Text], files: &mut W,
         → NoFault (outside (W.state files.old) (O.state out.old)) (outside (W.state files.new) (O.state out.new))
         → ((result ≡ 4) × Took (O.state out.old) (O.state out.new) (source_line e)) ⊎ (result ≡ 8) }
     ensures missing_always { (source image : List ℕ) (all : Files) → AreLawful (codes "compile") words.now source image
+        → (W.state files.old).files ≡ Some all → all source ≡ None
+        → NoFault (outside (W.state files.old) (O.state out.old)) (outside (W.state files.new) (O.state out.new)) → (result ≡ 3) ⊎ (result ≡ 8) }
+
+    // A check ends in one of its ways, and no file changes.
+    ensures checks { (source : List ℕ) → IsLawful (codes "check") words.now source → (s : Status) × (result ≡ code s)
+        × CheckEnds source (outside (W.state files.old) (O.state out.old)) (outside (W.state files.new) (O.state out.new)) s }
+    // Where no fault of the outside came, each source that keeps every rule passes with its weight, each other one is
+    // refused for its reason, and a file that is missing gives 3, want of memory aside.
+    ensures check_passes { (source bytes : List ℕ) (program : Program) (all : Files) → IsLawful (codes "check") words.now source
+        → (W.state files.old).files ≡ Some all → all source ≡ Some bytes → IsChecked bytes program
+        → NoFault (outside (W.state files.old) (O.state out.old)) (outside (W.state files.new) (O.state out.new))
+        → ((result ≡ 0) × Took (O.state out.old) (O.state out.new) (weight_line (program_weight program))) ⊎ (result ≡ 8) }
+    ensures check_refuses { (source bytes : List ℕ) (e : IsBuildError) (all : Files) → IsLawful (codes "check") words.now source
+        → (W.state files.old).files ≡ Some all → all source ≡ Some bytes → Unchecked bytes e
+        → NoFault (outside (W.state files.old) (O.state out.old)) (outside (W.state files.new) (O.state out.new))
+        → ((result ≡ 4) × Took (O.state out.old) (O.state out.new) (source_line e)) ⊎ (result ≡ 8) }
+    ensures check_missing { (source : List ℕ) (all : Files) → IsLawful (codes "check") words.now source
         → (W.state files.old).files ≡ Some all → all source ≡ None
         → NoFault (outside (W.state files.old) (O.state out.old)) (outside (W.state files.new) (O.state out.new)) → (result ≡ 3) ⊎ (result ≡ 8) }
 

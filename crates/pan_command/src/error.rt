@@ -3,6 +3,7 @@
 use pan_base::NoMemory;
 use pan_lexer::LexError;
 use pan_parser::ParseError;
+use pan_shapes::CheckError;
 
 /// Why a source has no image.
 #[derive(Clone, Copy, Debug, PartialEq, Eq)]
@@ -11,7 +12,9 @@ pub enum BuildError {
     Lex(LexError),
     /// Its tokens spell no program.
     Parse(ParseError),
-    /// Its program isn't straight-line, or weighs more than 16,384.
+    /// Its program breaks a rule.
+    Check(CheckError),
+    /// Its program isn't straight-line.
     Unsupported,
     /// There is no memory.
     NoMemory,
@@ -52,6 +55,20 @@ impl From<ParseError> for BuildError {
         match error {
             ParseError::NoMemory => BuildError::NoMemory,
             _ => BuildError::Parse(error),
+        }
+    }
+}
+
+impl From<CheckError> for BuildError {
+    ghost use Rattle.std.specs.Prelude.{◌≡◌};
+    ghost use Rattle.pan_command.specs.Inner.{of_check};
+
+    ghost from_gives = { λ inner e. e ≡ of_check inner };
+
+    fn from(error: CheckError) -> BuildError {
+        match error {
+            CheckError::NoMemory => BuildError::NoMemory,
+            _ => BuildError::Check(error),
         }
     }
 }

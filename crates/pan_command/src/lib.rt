@@ -2,6 +2,7 @@
 #![tactic(auto)]
 
 mod building;
+mod checking;
 mod command;
 mod error;
 mod laws;

@@ -3,8 +3,9 @@
 ghost use Rattle.std.specs.Prelude.{◌≡◌, ◌++◌, codes, ◌≢◌};
 ghost use Rattle.pan_base.specs.Causes.{HasCause};
 ghost use Rattle.pan_base.specs.Sinks.{PutsAll};
+ghost use Rattle.pan_command.specs.Check.{weight_line};
 ghost use Rattle.pan_command.specs.Run.{field_text, cause_text, image_line, script_line};
-ghost use Rattle.pan_command.specs.Served.{caused, source_line};
+ghost use Rattle.pan_command.specs.Served.{caused, rule_text, source_line};
 
 use crate::error::BuildError;
 use image_file::{FieldName, ImageError};
@@ -12,6 +13,7 @@ use itoa::Buffer;
 use pan_base::{Sink, SinkFault, put_all, put_each};
 use pan_lexer::LexError;
 use pan_parser::ParseError;
+use pan_shapes::{CheckError, Rule};
 use reply_file::Cause;
 
 /// Puts a word, a name and a line feed.
@@ -79,6 +81,31 @@ pub fn put_script_line<O: Sink>(out: &mut O, line: u64, cause: Cause) -> Result<
     )
 }
 
+fn name_of_rule(rule: Rule) -> &'static str
+    ensures { result.now ≡ rule_text rule }
+{
+    match rule {
+        Rule::TwoNames => "TwoNames",
+        Rule::NoMain => "NoMain",
+        Rule::MainShape => "MainShape",
+        Rule::UnknownName => "UnknownName",
+        Rule::UnknownFunction => "UnknownFunction",
+        Rule::UnknownException => "UnknownException",
+        Rule::WrongShape => "WrongShape",
+        Rule::WrongCount => "WrongCount",
+        Rule::NotStruct => "NotStruct",
+        Rule::NoField => "NoField",
+        Rule::NotWord => "NotWord",
+        Rule::BadShift => "BadShift",
+        Rule::LoopOutside => "LoopOutside",
+        Rule::NoReturn => "NoReturn",
+        Rule::ShapeTooWide => "ShapeTooWide",
+        Rule::TooMany => "TooMany",
+        Rule::FunctionTooHeavy => "FunctionTooHeavy",
+        Rule::ProgramTooHeavy => "ProgramTooHeavy",
+    }
+}
+
 /// The place and the name of what is wrong with a source.
 fn place_and_cause(error: BuildError) -> (u32, &'static str)
     ensures { caused result.0 result.1.now ≡ source_line error }
@@ -90,9 +117,11 @@ fn place_and_cause(error: BuildError) -> (u32, &'static str)
         BuildError::Lex(LexError::OpenComment(place)) => (place, "OpenComment"),
         BuildError::Parse(ParseError::Syntax(place)) => (place, "Syntax"),
         BuildError::Parse(ParseError::TooDeep(place)) => (place, "TooDeep"),
+        BuildError::Check(CheckError::Breaks { rule, place }) => (place, name_of_rule(rule)),
         BuildError::Unsupported => (0, "Unsupported"),
         BuildError::Lex(LexError::NoMemory)
         | BuildError::Parse(ParseError::NoMemory)
+        | BuildError::Check(CheckError::NoMemory)
         | BuildError::NoMemory => (0, "NoMemory"),
     }
 }
@@ -106,4 +135,12 @@ pub fn put_source_line<O: Sink>(out: &mut O, error: BuildError) -> Result<(), Si
     let mut buffer = Buffer::new();
     let number = buffer.format(place);
     put_each(out, &[number.as_bytes(), b" ", cause.as_bytes(), b"\n"])
+}
+
+/// Puts the line of a weight.
+pub fn put_weight_line<O: Sink>(out: &mut O, weight: u64) -> Result<(), SinkFault>
+    ensures took { PutsAll (O.state out.old) (O.state out.new) result (weight_line weight) }
+    ensures cause { HasCause (O.state out.old).faults (O.state out.new).faults result }
+{
+    put_line(out, "ok ", Buffer::new().format(weight))
 }

@@ -1,5 +1,6 @@
 use Rattle.std.proofs.Common.{sym, ◌∙◌}
 use Rattle.pan_command.proofs.Completeness.{compiles_only, compiled_by, starved_by, completes, refuses, misses}
+use Rattle.pan_command.proofs.CheckCompleteness as checking
 use Rattle.pan_command.proofs.RunCompleteness.{runs_so, run_completes}
 use Rattle.pan_command.proofs.command.panc.Goals as goal
 
@@ -30,3 +31,18 @@ returns-clause-compiled g c = λ source image lawful zero. compiled_by _ _ sourc
 
 pub returns-clause-starved : goal.returns-clause-starved
 returns-clause-starved g c = λ source image lawful eight. starved_by _ _ source image c.args.words.now c.act.result lawful c.act.ensures (sym c.code.ensures ∙ eight)
+
+pub returns-clause-checks : goal.returns-clause-checks
+returns-clause-checks g c = λ source lawful. (c.act.result, c.code.ensures, checking.checks_so _ _ source c.args.words.now c.act.result lawful c.act.ensures)
+
+pub returns-clause-check_passes : goal.returns-clause-check_passes
+returns-clause-check_passes g c = λ source bytes program all lawful told there checked fine.
+    rw c.code.ensures (checking.passes _ _ all source told fine bytes there c.args.words.now c.act.result program lawful checked c.act.ensures)
+
+pub returns-clause-check_refuses : goal.returns-clause-check_refuses
+returns-clause-check_refuses g c = λ source bytes e all lawful told there unchecked fine.
+    rw c.code.ensures (checking.refuses _ _ all source told fine bytes there c.args.words.now c.act.result e lawful unchecked c.act.ensures)
+
+pub returns-clause-check_missing : goal.returns-clause-check_missing
+returns-clause-check_missing g c = λ source all lawful told gone fine.
+    rw c.code.ensures (checking.misses _ _ all source told fine c.args.words.now c.act.result lawful gone c.act.ensures)

@@ -1,0 +1,60 @@
+-- What the action `check` leaves, by how it ends.
+use Rattle.std.specs.Prelude.{◌≡◌, ◌⊎◌, ℕ, List, [], ◌++◌, codes}
+use Rattle.std.specs.Fmt.{decimal}
+use Rattle.pan_base.specs.Causes.{Rose}
+use Rattle.pan_base.specs.Files.{NoneChanged}
+use Rattle.pan_base.specs.Sinks.{Took, TookFront}
+use Rattle.pan_tree.specs.Check.{program_weight}
+use Rattle.pan_tree.specs.declared.program.Program.{Program}
+use Rattle.pan_command.specs.declared.status.Status.{Status}
+use Rattle.pan_command.specs.declared.status.Status.TheVariants as status
+use Rattle.pan_command.specs.declared.error.BuildError.{BuildError}
+use Rattle.pan_command.specs.Served.{IsChecked, Unchecked, source_line}
+use Rattle.pan_command.specs.Outside.{Outside, Holds}
+use Rattle.pan_command.specs.Run.{FileUnread}
+
+-- the line of a weight
+abbrev pub weight_line : ℕ → List ℕ
+weight_line w = codes "ok " ++ decimal w ++ codes "\n"
+
+-- In what follows `Prints line` says how far the line was put: all of it, or a prefix.
+
+-- the source's bytes are a source of one program, which keeps every rule and has this weight
+pub record Passed (Prints : List ℕ → Type 0) (before : Outside) (source : List ℕ) : Type 0 where
+  pub bytes : List ℕ
+  pub held : Holds (before.files).files source bytes
+  pub program : Program
+  pub checked : IsChecked bytes program
+  pub only : (other : Program) → IsChecked bytes other → other ≡ program
+  pub accepted : (e : BuildError) → ¬ Unchecked bytes e
+  pub line : Prints (weight_line (program_weight program))
+
+-- the source's bytes are a source of no such program, for this reason and no other
+pub record Unpassed (Prints : List ℕ → Type 0) (before : Outside) (source : List ℕ) : Type 0 where
+  pub bytes : List ℕ
+  pub held : Holds (before.files).files source bytes
+  pub reason : BuildError
+  pub refused : Unchecked bytes reason
+  pub only : (e : BuildError) → Unchecked bytes e → e ≡ reason
+  pub unchecked : (program : Program) → ¬ IsChecked bytes program
+  pub line : Prints (source_line reason)
+
+-- a line could not be put, and what was put is a prefix of the line that was to be put
+pub record CheckUnput (before after : Outside) (source : List ℕ) : Type 0 where
+  pub cause : Rose (before.out).faults (after.out).faults
+  pub line : Passed (TookFront before.out after.out) before source
+      ⊎ (Unpassed (TookFront before.out after.out) before source
+      ⊎ FileUnread (TookFront before.out after.out) before after source)
+
+-- how `check` ends, beside that no file changes
+abbrev pub CheckCases : List ℕ → Outside → Outside → Status → Type 0
+CheckCases source before after status.Done = Passed (Took before.out after.out) before source
+CheckCases source before after status.Unread = FileUnread (Took before.out after.out) before after source
+CheckCases source before after status.Refused = Unpassed (Took before.out after.out) before source
+CheckCases source before after status.Unput = CheckUnput before after source
+CheckCases source before after status.NoMemory = Took before.out after.out []
+CheckCases source before after _ = ⊥
+
+-- how `check` ends
+abbrev pub CheckEnds : List ℕ → Outside → Outside → Status → Type 0
+CheckEnds source before after s = NoneChanged (before.files).files (after.files).files × CheckCases source before after s
