@@ -2,9 +2,12 @@
 use Rattle.std.proofs.Common.{arith, ◌≡◌, ◌⊎◌, inl, inr, ℕ, zero, suc, refl, sym, ap, ◌∙◌, subst, List, [], ◌∷◌, Option}
 use Rattle.pan_base.specs.Events.{Ending, Exit, Spent, Stack, Fails, Behaviour, only}
 use Rattle.pan_tree.specs.declared.syntax.ExprKind.TheVariants as expr
-use Rattle.pan_tree.specs.Value.{Word, Value, Scopes}
-use Rattle.pan_tree.specs.Meaning.{Does as StmtDoes, source, seen, start}
-use Rattle.pan_control.specs.World.{World, entered}
+use Rattle.pan_tree.specs.declared.spanned.Spanned.{Spanned}
+use Rattle.pan_tree.specs.declared.syntax.ExprKind.{ExprKind}
+use Rattle.pan_tree.specs.declared.syntax.StmtKind.TheOpen as stmt
+use Rattle.pan_tree.specs.Value.{Value}
+use Rattle.pan_tree.specs.Meaning.{Scopes, Does as StmtDoes, entry_weight, own_weight, calls, source, seen, start}
+use Rattle.pan_control.specs.World.{World, entered, tolled}
 use Rattle.pan_tree.specs.Check.{cost}
 use Rattle.pan_control.specs.Control.{Outcome, Normal, Returned, and_then, with_value, left}
 use Rattle.riscv_isa.specs.Step.{Over, step, reg}
@@ -18,11 +21,17 @@ use Rattle.straight_compiler.proofs.Statements.{return_is}
 use Rattle.image_file.proofs.WrittenLaws.{same_image}
 use Rattle.pan_command.specs.Sample.{nowhere, main_of_seven, returns_seven, exits_at_once}
 
+seven : Spanned ExprKind
+seven = record { kind = expr.Number 7; span = nowhere }
+
 begun : World
-begun = entered (cost returns_seven main_of_seven) (start [] [] 1)
+begun = entered (cost returns_seven main_of_seven) (tolled (entry_weight main_of_seven) (start [] [] 1))
+
+worked : World
+worked = tolled (own_weight {A = StmtDoes} returns_seven (stmt.Return seven) ([] ∷ [])) begun
 
 main_then : Option Value → Outcome Scopes Value
-main_then o = and_then (with_value o begun (λ a. Returned a begun)) (λ v w. Normal v w)
+main_then o = and_then (with_value o worked (λ a. Returned a worked)) (λ v w. Normal v w)
 
 given : Option Value → Behaviour
 given o = (seen (left (main_then o))).behaviour
@@ -32,8 +41,8 @@ shows : StmtDoes → Behaviour
 shows m = (seen (left (and_then (m ([] ∷ []) begun) (λ v w. Normal v w)))).behaviour
 
 returns : (source returns_seven [] [] 1).behaviour ≡ only (Exit 7)
-unfolding given main_then begun shows
-returns = ap shows (return_is (record { kind = expr.Number 7; span = nowhere })) ∙ ap given (value_number 7 ([] ∷ []) [])
+unfolding given main_then begun worked shows seven
+returns = ap shows (return_is returns_seven 1 (calls returns_seven 1) seven) ∙ ap given (value_number 7 ([] ∷ []) [])
 
 ends : step (booted exits_at_once [] [] 0) ≡ Over (Exit 0)
 unfolding step decoded reg
