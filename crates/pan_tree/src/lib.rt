@@ -8,6 +8,8 @@ mod shape;
 mod shapes;
 mod spanned;
 mod syntax;
+#[cfg(test)]
+mod tests;
 
 pub use level::Level;
 pub use program::{Exception, Function, Param, Program};
