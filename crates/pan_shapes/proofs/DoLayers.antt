@@ -1,5 +1,6 @@
 -- What statements do, at each variant.
-use Rattle.std.proofs.Common.{◌≡◌, ℕ, List, [], ◌∷◌, map, drop, Option, Some, None, refl, sym, ap, ◌∙◌}
+use Rattle.std.proofs.Common.{◌≡◌, ℕ, List, [], ◌∷◌, map, drop, Option, Some, None, inl, inr, refl, sym, ap, ◌∙◌}
+use Rattle.std.specs.Prelude.{◌⊎◌}
 use Rattle.pan_base.specs.declared.events.Size.{Size}
 use Rattle.pan_tree.specs.declared.shape.Shape.{Shape}
 use Rattle.pan_tree.specs.declared.spanned.Spanned.{Spanned}
@@ -66,6 +67,18 @@ do_shared_store n a e = at_variant (open_stmt.SharedStore n a e) (s.SharedStore 
 
 pub do_foreign : (f : List ℕ) (a b d e : Spanned ExprKind) → do_kind (s.Foreign f a b d e) ≡ do_layer (open_stmt.Foreign f a b d e)
 do_foreign f a b d e = at_variant (open_stmt.Foreign f a b d e) (s.Foreign f a b d e) (s.rolls-Foreign f a b d e)
+
+-- ---- two kinds that are checked alike
+
+pub leave_is : (k : StmtKind) → (k ≡ s.Break) ⊎ (k ≡ s.Continue) → do_kind k ≡ do_layer open_stmt.Break
+leave_is k (inl is) = ap do_kind is ∙ do_break
+leave_is k (inr is) = ap do_kind is ∙ do_continue
+
+pub two_words_is : (k : StmtKind) (a e : Spanned ExprKind) → (k ≡ s.StoreByte a e) ⊎ ((n : Size) × (k ≡ s.SharedStore n a e)) → do_kind k ≡ do_layer (open_stmt.StoreByte a e)
+two_words_is k a e (inl is) = ap do_kind is ∙ do_store_byte a e
+two_words_is k a e (inr (n, is)) = ap do_kind is ∙ do_shared_store n a e
+
+-- ---- calls
 
 call_by : (into : Target) (f : List ℕ) (args : List (Spanned ExprKind)) (h : Option (HandlerOf (Spanned StmtKind)))
     → do_kind (s.Call (record { into = into; function = f; args = args; handler = h })) ≡ do_layer (open_stmt.Call (record { into = into; function = f; args = args; handler = handler_doings h }))

@@ -1,6 +1,6 @@
 -- How expressions are judged, at each variant.
-use Rattle.std.proofs.Common.{◌≡◌, ℕ, ◌+◌, not, nat_lt, List, [], ◌∷◌, map, length, Some, None, Ok, Err, refl, sym, ap, subst, ◌∙◌}
-use Rattle.std.specs.Prelude.{is_some}
+use Rattle.std.proofs.Common.{◌≡◌, ℕ, ◌+◌, not, nat_lt, List, [], ◌∷◌, map, length, Some, None, Ok, Err, inl, inr, refl, sym, ap, subst, ◌∙◌}
+use Rattle.std.specs.Prelude.{is_some, ◌⊎◌}
 use Rattle.std.specs.List.{list_any}
 use Rattle.std.proofs.lemmas.Simd.{map-map}
 use Rattle.std.proofs.lemmas.List.{length-map}
@@ -92,6 +92,11 @@ module _ (place : ℕ) (v : Scopes) where
 
   -- ---- as the code meets them: a part is read through a reference
 
+  pub plain_is : (k : ExprKind) → ((n : ℕ) × (k ≡ e.Number n)) ⊎ ((k ≡ e.Base) ⊎ (k ≡ e.Biw)) → at k ≡ a_word
+  plain_is k (inl (n, is)) = ap at is ∙ judge_number n
+  plain_is k (inr (inl is)) = ap at is ∙ judge_base
+  plain_is k (inr (inr is)) = ap at is ∙ judge_biw
+
   pub struct_is : (k : ExprKind) (parts xs : List (Spanned ExprKind)) → k ≡ e.Struct parts → xs ≡ parts → at k ≡ a_struct (map (λ x. judged x v) xs)
   struct_is k parts xs is as_is = ap at is ∙ judge_struct parts ∙ sym (ap (λ xs. a_struct (map (λ x. judged x v) xs)) as_is)
 
@@ -101,20 +106,13 @@ module _ (place : ℕ) (v : Scopes) where
   pub load_is : (k : ExprKind) (s : Shape) (of x : Spanned ExprKind) → k ≡ e.Load s of → x ≡ of → at k ≡ a_load s (judged x v)
   load_is k s of x is x_is = ap at is ∙ judge_load s of ∙ sym (ap (λ x. a_load s (judged x v)) x_is)
 
-  pub load_byte_is : (k : ExprKind) (of x : Spanned ExprKind) → k ≡ e.LoadByte of → x ≡ of → at k ≡ word_from (judged x v ∷ [])
-  load_byte_is k of x is x_is = ap at is ∙ judge_load_byte of ∙ sym (ap (λ x. word_from (judged x v ∷ [])) x_is)
-
-  pub neg_is : (k : ExprKind) (of x : Spanned ExprKind) → k ≡ e.Neg of → x ≡ of → at k ≡ word_from (judged x v ∷ [])
-  neg_is k of x is x_is = ap at is ∙ judge_neg of ∙ sym (ap (λ x. word_from (judged x v ∷ [])) x_is)
+  pub word_from_is : (k : ExprKind) (of x : Spanned ExprKind) → (k ≡ e.LoadByte of) ⊎ (k ≡ e.Neg of) → x ≡ of → at k ≡ word_from (judged x v ∷ [])
+  word_from_is k of x (inl is) x_is = ap at is ∙ judge_load_byte of ∙ sym (ap (λ x. word_from (judged x v ∷ [])) x_is)
+  word_from_is k of x (inr is) x_is = ap at is ∙ judge_neg of ∙ sym (ap (λ x. word_from (judged x v ∷ [])) x_is)
 
   pub compare_is : (k : ExprKind) (o : Cmp) (left right x y : Spanned ExprKind) → k ≡ e.Compare o left right → x ≡ left → y ≡ right → at k ≡ word_from (judged x v ∷ judged y v ∷ [])
   compare_is k o left right x y is x_is y_is =
       ap at is ∙ judge_compare o left right ∙ sym (ap (λ x. word_from (judged x v ∷ judged right v ∷ [])) x_is) ∙ sym (ap (λ y. word_from (judged x v ∷ judged y v ∷ [])) y_is)
-
-  pub chain_is : (k : ExprKind) (first x : Spanned ExprKind) (rest ys : List (BinOp × Spanned ExprKind)) (n : ℕ) → k ≡ e.Chain first rest → x ≡ first → ys ≡ rest → n ≡ length rest → at k ≡ a_chain n (judged x v) (map (λ y. judged y.1 v) ys)
-  chain_is k first x rest ys n is x_is ys_is n_is =
-      ap at is ∙ judge_chain first rest ∙ sym (ap (λ n. a_chain n (judged first v) (map (λ y. judged y.1 v) rest)) n_is)
-      ∙ sym (ap (λ x. a_chain n (judged x v) (map (λ y. judged y.1 v) rest)) x_is) ∙ sym (ap (λ ys. a_chain n (judged x v) (map (λ y. judged y.1 v) ys)) ys_is)
 
   pub shift_is : (k : ExprKind) (of x : Spanned ExprKind) (amounts ns : List (ShOp × ℕ)) → k ≡ e.Shift of amounts → x ≡ of → ns ≡ amounts → at k ≡ a_shift (length ns) ns (judged x v)
   shift_is k of x amounts ns is x_is ns_is =

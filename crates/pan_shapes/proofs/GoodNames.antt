@@ -24,7 +24,7 @@ use Rattle.pan_shapes.proofs.BodyLemmas.{no_front, no_back}
 use Rattle.pan_shapes.proofs.DoLayers.{do_roll}
 use Rattle.pan_shapes.proofs.Inducting.{statement_induct}
 
-lawful_roll : (x : StmtKind-F StmtKind) → lawful_kind (roll-StmtKind x) ≡ lawful_layer (map-StmtKind StmtKind Bool lawful_kind x)
+pub lawful_roll : (x : StmtKind-F StmtKind) → lawful_kind (roll-StmtKind x) ≡ lawful_layer (map-StmtKind StmtKind Bool lawful_kind x)
 unfolding lawful_kind
 lawful_roll x = fold-roll-StmtKind Bool lawful_layer x
 

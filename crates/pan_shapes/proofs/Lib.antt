@@ -11,6 +11,7 @@ mod HeadLemmas
 mod Inducting
 mod Judgements
 mod Keeping
+mod LawfulLayers
 mod NameLemmas
 mod Sums
 pub mod FieldLemmas

@@ -1,6 +1,7 @@
 //! Statements, with those that have blocks.
 
 ghost use Rattle.std.specs.Prelude.{◌≡◌, [], map};
+ghost use Rattle.pan_tree.specs.declared.syntax.StmtKind.TheVariants as s;
 ghost use Rattle.pan_tree.specs.Check.{doing, do_kind, in_order, block, handle, handler_unknown};
 ghost use Rattle.pan_shapes.specs.Doings.{IsDone, context, state, doings, handler_doings};
 
@@ -12,7 +13,7 @@ use crate::statements::{
     shape_of_exception,
 };
 use crate::walking::{Around, Walk};
-use pan_tree::{Block, Handler, Stmt, StmtKind, count_words};
+use pan_tree::{Block, Call, Expr, Handler, Stmt, StmtKind, count_words};
 
 /// Checks a statement, and answers what it weighs, or 2^64 - 1 where that is less.
 #[cycle(stmt)]
@@ -31,32 +32,15 @@ pub fn check_stmt<'p>(
         StmtKind::StoreWords(address, value) => {
             check_store_words(around, place, address, value, walk)
         }
-        StmtKind::StoreByte(address, value) => check_two_words(around, place, address, value, walk),
+        StmtKind::StoreByte(address, value) | StmtKind::SharedStore(_, address, value) => {
+            check_two_words(around, place, address, value, walk)
+        }
         StmtKind::If(condition, then_do, else_do) => {
-            let test = check_condition(around, place, condition, walk)?;
-            let first = check_block(around, then_do, walk)?;
-            let second = check_block(around, else_do, walk)?;
-            Ok(test.saturating_add(first).saturating_add(second))
+            check_if(around, place, condition, then_do, else_do, walk)
         }
-        StmtKind::While(condition, body) => {
-            let test = check_condition(around, place, condition, walk)?;
-            let inside = Around {
-                alloc: around.alloc,
-                heads: around.heads,
-                result: around.result,
-                in_loop: true,
-            };
-            let body = check_block(&inside, body, walk)?;
-            Ok(test.saturating_add(body))
-        }
-        StmtKind::Break => check_leave(around, place, walk),
-        StmtKind::Continue => check_leave(around, place, walk),
-        StmtKind::Call(call) => {
-            let no_exception = names_no_exception(around, &call.handler);
-            let alone = check_call_alone(around, place, call, no_exception, walk)?;
-            let handler = check_handler(around, &call.handler, walk)?;
-            Ok(alone.saturating_add(handler))
-        }
+        StmtKind::While(condition, body) => check_while(around, place, condition, body, walk),
+        StmtKind::Break | StmtKind::Continue => check_leave(around, place, walk),
+        StmtKind::Call(call) => check_call(around, place, call, walk),
         StmtKind::Return(value) => check_return(around, place, value, walk),
         StmtKind::TailCall(name, args) => {
             check_tail_call(around, place, name, args.as_slice(), walk)
@@ -65,18 +49,68 @@ pub fn check_stmt<'p>(
         StmtKind::SharedLoad(size, name, address) => {
             check_shared_load(around, place, *size, name, address, walk)
         }
-        StmtKind::SharedStore(_, address, value) => {
-            check_two_words(around, place, address, value, walk)
+        StmtKind::Foreign(name, config, config_len, array, array_len) => {
+            let config = (config, config_len);
+            let array = (array, array_len);
+            check_foreign(around, place, name, config, array, walk)
         }
-        StmtKind::Foreign(name, config, config_len, array, array_len) => check_foreign(
-            around,
-            place,
-            name,
-            (config, config_len),
-            (array, array_len),
-            walk,
-        ),
     }
+}
+
+/// Checks an `if`, and answers what it weighs, or 2^64 - 1 where that is less.
+#[cycle(stmt)]
+fn check_if<'p>(
+    around: &Around<'_>,
+    place: u32,
+    condition: &Expr,
+    then_do: &'p Block,
+    else_do: &'p Block,
+    walk: &mut Walk<'p>,
+) -> Result<u64, CheckError>
+    ensures { IsDone (do_kind (s.If condition.now then_do.now else_do.now) (context around.now) place (state walk.old)) walk.new result }
+{
+    let test = check_condition(around, place, condition, walk)?;
+    let first = check_block(around, then_do, walk)?;
+    let second = check_block(around, else_do, walk)?;
+    Ok(test.saturating_add(first).saturating_add(second))
+}
+
+/// Checks a loop, and answers what it weighs, or 2^64 - 1 where that is less.
+#[cycle(stmt)]
+fn check_while<'p>(
+    around: &Around<'_>,
+    place: u32,
+    condition: &Expr,
+    body: &'p Block,
+    walk: &mut Walk<'p>,
+) -> Result<u64, CheckError>
+    ensures { IsDone (do_kind (s.While condition.now body.now) (context around.now) place (state walk.old)) walk.new result }
+{
+    let test = check_condition(around, place, condition, walk)?;
+    let inside = Around {
+        alloc: around.alloc,
+        heads: around.heads,
+        result: around.result,
+        in_loop: true,
+    };
+    let body = check_block(&inside, body, walk)?;
+    Ok(test.saturating_add(body))
+}
+
+/// Checks a call with its handler, and answers what it weighs, or 2^64 - 1 where that is less.
+#[cycle(stmt)]
+fn check_call<'p>(
+    around: &Around<'_>,
+    place: u32,
+    call: &'p Call,
+    walk: &mut Walk<'p>,
+) -> Result<u64, CheckError>
+    ensures { IsDone (do_kind (s.Call call.now) (context around.now) place (state walk.old)) walk.new result }
+{
+    let no_exception = names_no_exception(around, &call.handler);
+    let alone = check_call_alone(around, place, call, no_exception, walk)?;
+    let handler = check_handler(around, &call.handler, walk)?;
+    Ok(alone.saturating_add(handler))
 }
 
 /// Whether there is a handler, of an exception that isn't known.

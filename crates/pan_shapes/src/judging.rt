@@ -188,9 +188,7 @@ pub fn judge(alloc: Global, expr: &Expr, scopes: &Scopes<'_>) -> Result<Judged, 
 {
     let place = expr.span.start;
     match &expr.kind {
-        ExprKind::Number(_) => Ok(made_of(Shape::Word, 0)),
-        ExprKind::Base => Ok(made_of(Shape::Word, 0)),
-        ExprKind::Biw => Ok(made_of(Shape::Word, 0)),
+        ExprKind::Number(_) | ExprKind::Base | ExprKind::Biw => Ok(made_of(Shape::Word, 0)),
         ExprKind::Var(name) => judge_var(alloc, place, name.as_bytes(), scopes),
         ExprKind::Struct(parts) => {
             let parts = judge_parts(alloc, parts.as_slice(), scopes)?;
@@ -204,29 +202,53 @@ pub fn judge(alloc: Global, expr: &Expr, scopes: &Scopes<'_>) -> Result<Judged, 
             let address = judge(alloc, address.get(), scopes)?;
             loaded_of(alloc, place, shape, &address)
         }
-        ExprKind::LoadByte(address) => {
-            let address = judge(alloc, address.get(), scopes)?;
-            word_of(place, &address)
-        }
-        ExprKind::Neg(of) => {
+        ExprKind::LoadByte(of) | ExprKind::Neg(of) => {
             let of = judge(alloc, of.get(), scopes)?;
             word_of(place, &of)
         }
         ExprKind::Compare(_, left, right) => {
-            let left = judge(alloc, left.get(), scopes)?;
-            let right = judge(alloc, right.get(), scopes)?;
-            word_of_both(place, &left, &right)
+            judge_compare(alloc, place, left.get(), right.get(), scopes)
         }
         ExprKind::Chain(first, rest) => {
-            let first = judge(alloc, first.get(), scopes)?;
-            let terms = judge_terms(alloc, rest.as_slice(), scopes)?;
-            chain_of(place, &first, terms, rest.len())
+            judge_chain(alloc, place, first.get(), rest.as_slice(), scopes)
         }
         ExprKind::Shift(of, amounts) => {
             let of = judge(alloc, of.get(), scopes)?;
             shift_of(place, &of, amounts.as_slice())
         }
     }
+}
+
+/// The shape and weight of a comparison of these two.
+#[cycle(judge)]
+fn judge_compare(
+    alloc: Global,
+    place: u32,
+    left: &Expr,
+    right: &Expr,
+    scopes: &Scopes<'_>,
+) -> Result<Judged, CheckError>
+    ensures { let parts = judged left.now scopes.now ∷ judged right.now scopes.now ∷ [] in IsJudged (check.whole place shape.Word parts ((rule.NotWord, check.has_no_word parts) ∷ [])) result }
+{
+    let left = judge(alloc, left, scopes)?;
+    let right = judge(alloc, right, scopes)?;
+    word_of_both(place, &left, &right)
+}
+
+/// The shape and weight of a chain of a part and of terms.
+#[cycle(judge)]
+fn judge_chain(
+    alloc: Global,
+    place: u32,
+    first: &Expr,
+    rest: &[(BinOp, Expr)],
+    scopes: &Scopes<'_>,
+) -> Result<Judged, CheckError>
+    ensures { IsJudged (judge_kind (e.Chain first.now rest.now) place scopes.now) result }
+{
+    let first = judge(alloc, first, scopes)?;
+    let terms = judge_terms(alloc, rest, scopes)?;
+    chain_of(place, &first, terms, rest.len())
 }
 
 /// The shapes of the parts of a struct, and what they weigh.

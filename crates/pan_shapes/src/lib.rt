@@ -15,6 +15,8 @@ mod names;
 mod refusals;
 mod scopes;
 mod statements;
+#[cfg(test)]
+mod tests;
 mod walking;
 mod weights;
 

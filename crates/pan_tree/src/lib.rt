@@ -9,6 +9,8 @@ mod shape;
 mod shapes;
 mod spanned;
 mod syntax;
+#[cfg(test)]
+mod tests;
 
 pub use laws::source_goes_on;
 pub use level::Level;

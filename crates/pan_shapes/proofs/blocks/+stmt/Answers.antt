@@ -1,5 +1,5 @@
 use Rattle.std.proofs.Common.{◌≡◌, ℕ, List, [], ◌∷◌, ◌-◌, ◌^◌, ◌+◌, min, map, Ok, arith, refl, sym, ap, subst, ◌∙◌}
-use Rattle.std.proofs.Common.{true, Result}
+use Rattle.std.proofs.Common.{Bool, true, Result}
 use Rattle.pan_shapes.specs.declared.error.CheckError.{CheckError}
 use Rattle.pan_shapes.specs.declared.walking.Walk.{Walk}
 use Rattle.std.specs.Option.{option_map_or}
@@ -10,10 +10,12 @@ use Rattle.pan_tree.specs.declared.spanned.Spanned.{Spanned}
 use Rattle.pan_tree.specs.declared.syntax.StmtKind.{StmtKind}
 use Rattle.pan_tree.specs.declared.syntax.ExprKind.{ExprKind}
 use Rattle.pan_tree.specs.Shapes.{words_of}
-use Rattle.pan_tree.specs.Check.{State, Scopes, do_kind, do_layer, doing, in_order, block, handle, and_block, declare, or_word, exception_of}
+use Rattle.pan_tree.specs.Check.{Context, State, Scopes, handler_unknown, do_kind, do_layer, doing, in_order, block, handle, and_block, declare, or_word, exception_of}
 use Rattle.pan_tree.specs.declared.syntax.StmtKind.TheOpen as stmt
+use Rattle.pan_tree.specs.declared.syntax.StmtKind.TheVariants as kind
+use Rattle.pan_tree.specs.declared.syntax.CallOf.{CallOf}
 use Rattle.pan_shapes.specs.Doings.{IsDone, context, state, doings, handler_doings, condition_alone, call_alone}
-use Rattle.pan_shapes.proofs.DoLayers.{do_skip, do_decl, do_assign, do_store_words, do_store_byte, do_if, do_while, do_break, do_continue, do_call, do_return, do_tail_call, do_raise, do_shared_load, do_shared_store, do_foreign}
+use Rattle.pan_shapes.proofs.DoLayers.{do_skip, do_decl, do_assign, do_store_words, do_if, do_while, do_call, do_return, do_tail_call, do_raise, do_shared_load, do_foreign, leave_is, two_words_is}
 use Rattle.pan_shapes.proofs.DoSteps.{DoneAs, at_kind, done_wrong, wrong_first, wrong_then, goes_on, block_done, all_weight, value_known, handler_done}
 use Rattle.pan_shapes.proofs.blocks.+stmt.Goals as goal
 
@@ -37,15 +39,11 @@ check_stmt-returns-in-StoreWords t c =
 
 pub check_stmt-returns-in-StoreByte : goal.check_stmt-returns-in-StoreByte
 check_stmt-returns-in-StoreByte t c =
-    at_kind (c.args.stmt.now).kind _ (context c.args.around.now) ((c.args.stmt.now).span).start (state c.args.walk.now) c.args.walk.now c.check_two_words.result (ap do_kind c.in-StoreByte.is ∙ do_store_byte c.in-StoreByte.address c.in-StoreByte.value) c.check_two_words.ensures
+    at_kind (c.args.stmt.now).kind _ (context c.args.around.now) ((c.args.stmt.now).span).start (state c.args.walk.now) c.args.walk.now c.check_two_words.result (two_words_is (c.args.stmt.now).kind c.in-StoreByte.address c.in-StoreByte.value c.in-StoreByte.is) c.check_two_words.ensures
 
 pub check_stmt-returns-in-Break : goal.check_stmt-returns-in-Break
 check_stmt-returns-in-Break t c =
-    at_kind (c.args.stmt.now).kind _ (context c.args.around.now) ((c.args.stmt.now).span).start (state c.args.walk.now) c.args.walk.now c.check_leave.result (ap do_kind c.in-Break.is ∙ do_break) c.check_leave.ensures
-
-pub check_stmt-returns-in-Continue : goal.check_stmt-returns-in-Continue
-check_stmt-returns-in-Continue t c =
-    at_kind (c.args.stmt.now).kind _ (context c.args.around.now) ((c.args.stmt.now).span).start (state c.args.walk.now) c.args.walk.now c.check_leave-in-Continue.result (ap do_kind c.in-Continue.is ∙ do_continue) c.check_leave-in-Continue.ensures
+    at_kind (c.args.stmt.now).kind _ (context c.args.around.now) ((c.args.stmt.now).span).start (state c.args.walk.now) c.args.walk.now c.check_leave.result (leave_is (c.args.stmt.now).kind c.in-Break.is) c.check_leave.ensures
 
 pub check_stmt-returns-in-Return : goal.check_stmt-returns-in-Return
 check_stmt-returns-in-Return t c =
@@ -58,10 +56,6 @@ check_stmt-returns-in-Raise t c =
 pub check_stmt-returns-in-SharedLoad : goal.check_stmt-returns-in-SharedLoad
 check_stmt-returns-in-SharedLoad t c =
     at_kind (c.args.stmt.now).kind _ (context c.args.around.now) ((c.args.stmt.now).span).start (state c.args.walk.now) c.args.walk.now c.check_shared_load.result (ap do_kind c.in-SharedLoad.is ∙ do_shared_load c.in-SharedLoad.size c.in-SharedLoad.name c.in-SharedLoad.address) c.check_shared_load.ensures
-
-pub check_stmt-returns-in-SharedStore : goal.check_stmt-returns-in-SharedStore
-check_stmt-returns-in-SharedStore t c =
-    at_kind (c.args.stmt.now).kind _ (context c.args.around.now) ((c.args.stmt.now).span).start (state c.args.walk.now) c.args.walk.now c.check_two_words-in-SharedStore.result (ap do_kind c.in-SharedStore.is ∙ do_shared_store c.in-SharedStore.field-0 c.in-SharedStore.address c.in-SharedStore.value) c.check_two_words-in-SharedStore.ensures
 
 pub check_stmt-returns-in-Foreign : goal.check_stmt-returns-in-Foreign
 check_stmt-returns-in-Foreign t c =
@@ -77,150 +71,137 @@ check_stmt-returns-in-TailCall t c =
 
 -- ---- if
 
-pub check_stmt-returns-in_err-test-in-If : goal.check_stmt-returns-in_err-test-in-If
-check_stmt-returns-in_err-test-in-If t c =
+pub check_if-returns-in_err-test : goal.check_if-returns-in_err-test
+check_if-returns-in_err-test t c =
     let ctx = context c.args.around.now in
-    let place = ((c.args.stmt.now).span).start in
     let s = state c.args.walk.now in
-    let test = condition_alone c.in-If.condition place s in
-    let first = block [] (doings c.in-If.then_do) ctx in
-    let second = block [] (doings c.in-If.else_do) ctx in
-    let is = ap do_kind c.in-If.is ∙ do_if c.in-If.condition c.in-If.then_do c.in-If.else_do in
-    let e = c.in_err-test-in-If.field-0.0 in
-    at_kind (c.args.stmt.now).kind _ ctx place s c.args.walk.now c.from_residual.result is
-    (done_wrong (and_block (and_block test first) second) c.args.walk.now c.from_residual.result e c.from_residual.ensures.1 (wrong_first (and_block test first) second e (wrong_first test first e c.in_err-test-in-If.ensures)))
+    let test = condition_alone c.args.condition.now c.args.place s in
+    let first = block [] (doings c.args.then_do.now) ctx in
+    let second = block [] (doings c.args.else_do.now) ctx in
+    let is = do_if c.args.condition.now c.args.then_do.now c.args.else_do.now in
+    let e = c.in_err-test.field-0.0 in
+    at_kind (kind.If c.args.condition.now c.args.then_do.now c.args.else_do.now) _ ctx c.args.place s c.args.walk.now c.from_residual.result is
+    (done_wrong (and_block (and_block test first) second) c.args.walk.now c.from_residual.result e c.from_residual.ensures.1 (wrong_first (and_block test first) second e (wrong_first test first e c.in_err-test.ensures)))
 
-pub check_stmt-returns-in_err-first-in-If : goal.check_stmt-returns-in_err-first-in-If
-check_stmt-returns-in_err-first-in-If t c =
+pub check_if-returns-in_err-first : goal.check_if-returns-in_err-first
+check_if-returns-in_err-first t c =
     let ctx = context c.args.around.now in
-    let place = ((c.args.stmt.now).span).start in
     let s = state c.args.walk.now in
-    let test = condition_alone c.in-If.condition place s in
-    let first = block [] (doings c.in-If.then_do) ctx in
-    let second = block [] (doings c.in-If.else_do) ctx in
-    let is = ap do_kind c.in-If.is ∙ do_if c.in-If.condition c.in-If.then_do c.in-If.else_do in
-    let e = c.in_err-first-in-If.field-0.0 in
-    at_kind (c.args.stmt.now).kind _ ctx place s c.check_block.new.walk c.from_residual-in_err-first-in-If.result is
-    (done_wrong (and_block (and_block test first) second) c.check_block.new.walk c.from_residual-in_err-first-in-If.result e c.from_residual-in_err-first-in-If.ensures.1
-    (wrong_first (and_block test first) second e (wrong_then test first c.in_ok-test-in-If.test s e c.in_ok-test-in-If.ensures c.in_err-first-in-If.ensures)))
+    let test = condition_alone c.args.condition.now c.args.place s in
+    let first = block [] (doings c.args.then_do.now) ctx in
+    let second = block [] (doings c.args.else_do.now) ctx in
+    let is = do_if c.args.condition.now c.args.then_do.now c.args.else_do.now in
+    let e = c.in_err-first.field-0.0 in
+    at_kind (kind.If c.args.condition.now c.args.then_do.now c.args.else_do.now) _ ctx c.args.place s c.check_block.new.walk c.from_residual-in_err-first.result is
+    (done_wrong (and_block (and_block test first) second) c.check_block.new.walk c.from_residual-in_err-first.result e c.from_residual-in_err-first.ensures.1
+    (wrong_first (and_block test first) second e (wrong_then test first c.in_ok-test.test s e c.in_ok-test.ensures c.in_err-first.ensures)))
 
-pub check_stmt-returns-in_err-second-in-If : goal.check_stmt-returns-in_err-second-in-If
-check_stmt-returns-in_err-second-in-If t c =
+pub check_if-returns-in_err-second : goal.check_if-returns-in_err-second
+check_if-returns-in_err-second t c =
     let ctx = context c.args.around.now in
-    let place = ((c.args.stmt.now).span).start in
     let s = state c.args.walk.now in
-    let test = condition_alone c.in-If.condition place s in
-    let first = block [] (doings c.in-If.then_do) ctx in
-    let second = block [] (doings c.in-If.else_do) ctx in
-    let is = ap do_kind c.in-If.is ∙ do_if c.in-If.condition c.in-If.then_do c.in-If.else_do in
-    let e = c.in_err-second-in-If.field-0.0 in
-    let n = c.in_ok-test-in-If.test in
-    let m = c.in_ok-first-in-If.first in
-    let front = goes_on test first n m (min (n + m) (2 ^ 64 - 1)) s (state c.check_block.new.walk) c.in_ok-test-in-If.ensures c.in_ok-first-in-If.ensures refl in
-    at_kind (c.args.stmt.now).kind _ ctx place s c.check_block-in-If.new.walk c.from_residual-in_err-second-in-If.result is
-    (done_wrong (and_block (and_block test first) second) c.check_block-in-If.new.walk c.from_residual-in_err-second-in-If.result e c.from_residual-in_err-second-in-If.ensures.1
-    (wrong_then (and_block test first) second _ (state c.check_block.new.walk) e front c.in_err-second-in-If.ensures))
+    let test = condition_alone c.args.condition.now c.args.place s in
+    let first = block [] (doings c.args.then_do.now) ctx in
+    let second = block [] (doings c.args.else_do.now) ctx in
+    let is = do_if c.args.condition.now c.args.then_do.now c.args.else_do.now in
+    let e = c.in_err-second.field-0.0 in
+    let n = c.in_ok-test.test in
+    let m = c.in_ok-first.first in
+    let front = goes_on test first n m (min (n + m) (2 ^ 64 - 1)) s (state c.check_block.new.walk) c.in_ok-test.ensures c.in_ok-first.ensures refl in
+    at_kind (kind.If c.args.condition.now c.args.then_do.now c.args.else_do.now) _ ctx c.args.place s c.check_block-2.new.walk c.from_residual-in_err-second.result is
+    (done_wrong (and_block (and_block test first) second) c.check_block-2.new.walk c.from_residual-in_err-second.result e c.from_residual-in_err-second.ensures.1
+    (wrong_then (and_block test first) second _ (state c.check_block.new.walk) e front c.in_err-second.ensures))
 
-pub check_stmt-returns-in_ok-second-in-If : goal.check_stmt-returns-in_ok-second-in-If
-check_stmt-returns-in_ok-second-in-If t c =
+pub check_if-returns : goal.check_if-returns
+check_if-returns t c =
     let ctx = context c.args.around.now in
-    let place = ((c.args.stmt.now).span).start in
     let s = state c.args.walk.now in
-    let test = condition_alone c.in-If.condition place s in
-    let first = block [] (doings c.in-If.then_do) ctx in
-    let second = block [] (doings c.in-If.else_do) ctx in
-    let is = ap do_kind c.in-If.is ∙ do_if c.in-If.condition c.in-If.then_do c.in-If.else_do in
-    let n = c.in_ok-test-in-If.test in
-    let m = c.in_ok-first-in-If.first in
-    let front = goes_on test first n m c.saturating_add.result s (state c.check_block.new.walk) c.in_ok-test-in-If.ensures c.in_ok-first-in-If.ensures c.saturating_add.ensures in
-    at_kind (c.args.stmt.now).kind _ ctx place s c.check_block-in-If.new.walk (Ok c.saturating_add-in-If.result) is
-    (goes_on (and_block test first) second c.saturating_add.result c.in_ok-second-in-If.second c.saturating_add-in-If.result (state c.check_block.new.walk) (state c.check_block-in-If.new.walk) front c.in_ok-second-in-If.ensures c.saturating_add-in-If.ensures)
+    let test = condition_alone c.args.condition.now c.args.place s in
+    let first = block [] (doings c.args.then_do.now) ctx in
+    let second = block [] (doings c.args.else_do.now) ctx in
+    let is = do_if c.args.condition.now c.args.then_do.now c.args.else_do.now in
+    let front = goes_on test first c.in_ok-test.test c.in_ok-first.first c.saturating_add.result s (state c.check_block.new.walk) c.in_ok-test.ensures c.in_ok-first.ensures c.saturating_add.ensures in
+    at_kind (kind.If c.args.condition.now c.args.then_do.now c.args.else_do.now) _ ctx c.args.place s c.check_block-2.new.walk (Ok c.saturating_add-2.result) is
+    (goes_on (and_block test first) second c.saturating_add.result c.in_ok-second.second c.saturating_add-2.result (state c.check_block.new.walk) (state c.check_block-2.new.walk) front c.in_ok-second.ensures c.saturating_add-2.ensures)
 
 -- ---- while
 
-pub check_stmt-returns-in_err-test-in-While : goal.check_stmt-returns-in_err-test-in-While
-check_stmt-returns-in_err-test-in-While t c =
+pub check_while-returns-in_err-test : goal.check_while-returns-in_err-test
+check_while-returns-in_err-test t c =
     let ctx = context c.args.around.now in
-    let place = ((c.args.stmt.now).span).start in
     let s = state c.args.walk.now in
-    let test = condition_alone c.in-While.condition place s in
-    let body = block [] (doings c.in-While.body) (record ctx { in_loop = true }) in
-    let is = ap do_kind c.in-While.is ∙ do_while c.in-While.condition c.in-While.body in
-    let e = c.in_err-test-in-While.field-0.0 in
-    at_kind (c.args.stmt.now).kind _ ctx place s c.args.walk.now c.from_residual-in_err-test-in-While.result is
-    (done_wrong (and_block test body) c.args.walk.now c.from_residual-in_err-test-in-While.result e c.from_residual-in_err-test-in-While.ensures.1 (wrong_first test body e c.in_err-test-in-While.ensures))
+    let test = condition_alone c.args.condition.now c.args.place s in
+    let body = block [] (doings c.args.body.now) (record ctx { in_loop = true }) in
+    let e = c.in_err-test.field-0.0 in
+    at_kind (kind.While c.args.condition.now c.args.body.now) _ ctx c.args.place s c.args.walk.now c.from_residual.result (do_while c.args.condition.now c.args.body.now)
+    (done_wrong (and_block test body) c.args.walk.now c.from_residual.result e c.from_residual.ensures.1 (wrong_first test body e c.in_err-test.ensures))
 
-pub check_stmt-returns-in_err-body-in-While : goal.check_stmt-returns-in_err-body-in-While
-check_stmt-returns-in_err-body-in-While t c =
+pub check_while-returns-in_err-body : goal.check_while-returns-in_err-body
+check_while-returns-in_err-body t c =
     let ctx = context c.args.around.now in
-    let place = ((c.args.stmt.now).span).start in
     let s = state c.args.walk.now in
-    let test = condition_alone c.in-While.condition place s in
-    let body = block [] (doings c.in-While.body) (record ctx { in_loop = true }) in
-    let is = ap do_kind c.in-While.is ∙ do_while c.in-While.condition c.in-While.body in
-    let e = c.in_err-body-in-While.field-0.0 in
-    at_kind (c.args.stmt.now).kind _ ctx place s c.check_block-in-While.new.walk c.from_residual-in_err-body-in-While.result is
-    (done_wrong (and_block test body) c.check_block-in-While.new.walk c.from_residual-in_err-body-in-While.result e c.from_residual-in_err-body-in-While.ensures.1
-    (wrong_then test body c.in_ok-test-in-While.test s e c.in_ok-test-in-While.ensures c.in_err-body-in-While.ensures))
+    let test = condition_alone c.args.condition.now c.args.place s in
+    let body = block [] (doings c.args.body.now) (record ctx { in_loop = true }) in
+    let e = c.in_err-body.field-0.0 in
+    at_kind (kind.While c.args.condition.now c.args.body.now) _ ctx c.args.place s c.check_block.new.walk c.from_residual-in_err-body.result (do_while c.args.condition.now c.args.body.now)
+    (done_wrong (and_block test body) c.check_block.new.walk c.from_residual-in_err-body.result e c.from_residual-in_err-body.ensures.1
+    (wrong_then test body c.in_ok-test.test s e c.in_ok-test.ensures c.in_err-body.ensures))
 
-pub check_stmt-returns-in_ok-body-in-While : goal.check_stmt-returns-in_ok-body-in-While
-check_stmt-returns-in_ok-body-in-While t c =
+pub check_while-returns : goal.check_while-returns
+check_while-returns t c =
     let ctx = context c.args.around.now in
-    let place = ((c.args.stmt.now).span).start in
     let s = state c.args.walk.now in
-    let test = condition_alone c.in-While.condition place s in
-    let body = block [] (doings c.in-While.body) (record ctx { in_loop = true }) in
-    let is = ap do_kind c.in-While.is ∙ do_while c.in-While.condition c.in-While.body in
-    at_kind (c.args.stmt.now).kind _ ctx place s c.check_block-in-While.new.walk (Ok c.saturating_add-in-While.result) is
-    (goes_on test body c.in_ok-test-in-While.test c.in_ok-body-in-While.body c.saturating_add-in-While.result s (state c.check_block-in-While.new.walk) c.in_ok-test-in-While.ensures c.in_ok-body-in-While.ensures c.saturating_add-in-While.ensures)
+    let test = condition_alone c.args.condition.now c.args.place s in
+    let body = block [] (doings c.args.body.now) (record ctx { in_loop = true }) in
+    at_kind (kind.While c.args.condition.now c.args.body.now) _ ctx c.args.place s c.check_block.new.walk (Ok c.saturating_add.result) (do_while c.args.condition.now c.args.body.now)
+    (goes_on test body c.in_ok-test.test c.in_ok-body.body c.saturating_add.result s (state c.check_block.new.walk) c.in_ok-test.ensures c.in_ok-body.ensures c.saturating_add.ensures)
 
 -- ---- call
 
-pub check_stmt-returns-in_err-alone-in-Call : goal.check_stmt-returns-in_err-alone-in-Call
-check_stmt-returns-in_err-alone-in-Call t c =
-    let ctx = context c.args.around.now in
-    let place = ((c.args.stmt.now).span).start in
-    let s = state c.args.walk.now in
-    let call = c.in-Call.call in
-    let alone = call_alone call.into call.function call.args c.names_no_exception-no_exception.result ctx place s in
-    let caught = handle (handler_doings call.handler) ctx in
-    let is = ap do_kind c.in-Call.is ∙ do_call call in
-    let knows = λ (w : Walk) (r : Result ℕ CheckError) (done : IsDone (and_block alone caught) w r).
-    at_kind (c.args.stmt.now).kind _ ctx place s w r is (subst (λ b. IsDone (and_block (call_alone call.into call.function call.args b ctx place s) caught) w r) c.names_no_exception-no_exception.ensures done) in
-    let e = c.in_err-alone-in-Call.field-0.0 in
-    let r = c.from_residual-in_err-alone-in-Call.result in
-    knows c.check_call_alone.new.walk r (done_wrong (and_block alone caught) c.check_call_alone.new.walk r e c.from_residual-in_err-alone-in-Call.ensures.1 (wrong_first alone caught e c.in_err-alone-in-Call.ensures))
+-- a call, where the code knows whether its handler's exception is known
+call_done : (k : CallOf (Spanned StmtKind)) (b : Bool) (c : Context) (place : ℕ) (s : State) (w : Walk) (r : Result ℕ CheckError) → b ≡ handler_unknown (handler_doings k.handler) c.program
+    → IsDone (and_block (call_alone k.into k.function k.args b c place s) (handle (handler_doings k.handler) c)) w r → IsDone (do_kind (kind.Call k) c place s) w r
+call_done k b c place s w r known done =
+    at_kind (kind.Call k) _ c place s w r (do_call k) (subst (λ b. IsDone (and_block (call_alone k.into k.function k.args b c place s) (handle (handler_doings k.handler) c)) w r) known done)
 
-pub check_stmt-returns-in_err-handler-in-Call : goal.check_stmt-returns-in_err-handler-in-Call
-check_stmt-returns-in_err-handler-in-Call t c =
+pub check_call-returns-in_err-alone : goal.check_call-returns-in_err-alone
+check_call-returns-in_err-alone t c =
     let ctx = context c.args.around.now in
-    let place = ((c.args.stmt.now).span).start in
     let s = state c.args.walk.now in
-    let call = c.in-Call.call in
-    let alone = call_alone call.into call.function call.args c.names_no_exception-no_exception.result ctx place s in
+    let call = c.args.call.now in
+    let b = c.names_no_exception-no_exception.result in
+    let alone = call_alone call.into call.function call.args b ctx c.args.place s in
     let caught = handle (handler_doings call.handler) ctx in
-    let is = ap do_kind c.in-Call.is ∙ do_call call in
-    let knows = λ (w : Walk) (r : Result ℕ CheckError) (done : IsDone (and_block alone caught) w r).
-    at_kind (c.args.stmt.now).kind _ ctx place s w r is (subst (λ b. IsDone (and_block (call_alone call.into call.function call.args b ctx place s) caught) w r) c.names_no_exception-no_exception.ensures done) in
-    let e = c.in_err-handler-in-Call.field-0.0 in
-    let r = c.from_residual-in_err-handler-in-Call.result in
-    knows c.check_handler.new.walk r (done_wrong (and_block alone caught) c.check_handler.new.walk r e c.from_residual-in_err-handler-in-Call.ensures.1
-    (wrong_then alone caught c.in_ok-alone-in-Call.alone (state c.check_call_alone.new.walk) e c.in_ok-alone-in-Call.ensures c.in_err-handler-in-Call.ensures))
+    let e = c.in_err-alone.field-0.0 in
+    let r = c.from_residual.result in
+    call_done call b ctx c.args.place s c.check_call_alone.new.walk r c.names_no_exception-no_exception.ensures
+    (done_wrong (and_block alone caught) c.check_call_alone.new.walk r e c.from_residual.ensures.1 (wrong_first alone caught e c.in_err-alone.ensures))
 
-pub check_stmt-returns-in_ok-handler-in-Call : goal.check_stmt-returns-in_ok-handler-in-Call
-check_stmt-returns-in_ok-handler-in-Call t c =
+pub check_call-returns-in_err-handler : goal.check_call-returns-in_err-handler
+check_call-returns-in_err-handler t c =
     let ctx = context c.args.around.now in
-    let place = ((c.args.stmt.now).span).start in
     let s = state c.args.walk.now in
-    let call = c.in-Call.call in
-    let alone = call_alone call.into call.function call.args c.names_no_exception-no_exception.result ctx place s in
+    let call = c.args.call.now in
+    let b = c.names_no_exception-no_exception.result in
+    let alone = call_alone call.into call.function call.args b ctx c.args.place s in
     let caught = handle (handler_doings call.handler) ctx in
-    let is = ap do_kind c.in-Call.is ∙ do_call call in
-    let knows = λ (w : Walk) (r : Result ℕ CheckError) (done : IsDone (and_block alone caught) w r).
-    at_kind (c.args.stmt.now).kind _ ctx place s w r is (subst (λ b. IsDone (and_block (call_alone call.into call.function call.args b ctx place s) caught) w r) c.names_no_exception-no_exception.ensures done) in
-    knows c.check_handler.new.walk (Ok c.saturating_add-in-Call.result)
-    (goes_on alone caught c.in_ok-alone-in-Call.alone c.in_ok-handler-in-Call.handler c.saturating_add-in-Call.result (state c.check_call_alone.new.walk) (state c.check_handler.new.walk)
-    c.in_ok-alone-in-Call.ensures c.in_ok-handler-in-Call.ensures c.saturating_add-in-Call.ensures)
+    let e = c.in_err-handler.field-0.0 in
+    let r = c.from_residual-in_err-handler.result in
+    call_done call b ctx c.args.place s c.check_handler.new.walk r c.names_no_exception-no_exception.ensures
+    (done_wrong (and_block alone caught) c.check_handler.new.walk r e c.from_residual-in_err-handler.ensures.1
+    (wrong_then alone caught c.in_ok-alone.alone (state c.check_call_alone.new.walk) e c.in_ok-alone.ensures c.in_err-handler.ensures))
+
+pub check_call-returns : goal.check_call-returns
+check_call-returns t c =
+    let ctx = context c.args.around.now in
+    let s = state c.args.walk.now in
+    let call = c.args.call.now in
+    let b = c.names_no_exception-no_exception.result in
+    let alone = call_alone call.into call.function call.args b ctx c.args.place s in
+    let caught = handle (handler_doings call.handler) ctx in
+    call_done call b ctx c.args.place s c.check_handler.new.walk (Ok c.saturating_add.result) c.names_no_exception-no_exception.ensures
+    (goes_on alone caught c.in_ok-alone.alone c.in_ok-handler.handler c.saturating_add.result (state c.check_call_alone.new.walk) (state c.check_handler.new.walk)
+    c.in_ok-alone.ensures c.in_ok-handler.ensures c.saturating_add.ensures)
 
 -- ---- blocks
 

@@ -3,10 +3,11 @@ use Rattle.std.proofs.lemmas.List.{append-nil, drop_all}
 use Rattle.pan_base.specs.declared.operators.BinOp.{BinOp}
 use Rattle.pan_tree.specs.declared.spanned.Spanned.{Spanned}
 use Rattle.pan_tree.specs.declared.syntax.ExprKind.{ExprKind}
+use Rattle.pan_tree.specs.declared.syntax.ExprKind.TheVariants as e
 use Rattle.pan_tree.specs.Check.{judge_kind, judged, breaks_of, weights, has_no_word}
 use Rattle.pan_shapes.specs.Judging.{IsJudged, TellsParts, TellsTerms}
 use Rattle.pan_shapes.proofs.Combining.{handed_on, item_refused, weight_at_end}
-use Rattle.pan_shapes.proofs.ExprLayers.{judge_number, judge_base, judge_biw, struct_is, field_is, load_is, load_byte_is, neg_is, compare_is, chain_is, shift_is}
+use Rattle.pan_shapes.proofs.ExprLayers.{word_from, judge_chain, plain_is, struct_is, field_is, load_is, word_from_is, compare_is, shift_is}
 use Rattle.pan_shapes.proofs.Judgements.{or_false, parts_refused, first_refused, others_refused, second_refused, word_passes, struct_passes, field_passes, load_passes, word_from_one, word_from_both, chain_passes, shift_passes}
 use Rattle.pan_shapes.proofs.judging.+judge.Goals as goal
 
@@ -14,25 +15,8 @@ pub judge-returns-in-Number : goal.judge-returns-in-Number
 judge-returns-in-Number t c =
     let place = c.args.expr.now.span.start in
     let v = c.args.scopes.now in
-    let is = ap (λ k. judge_kind k place v) c.in-Number.is ∙ judge_number place v c.in-Number.field-0 in
     let made = c.made_of.ensures in
-    subst (λ j. IsJudged j (Ok c.made_of.result)) (sym is) (word_passes place v (Ok c.made_of.result) c.made_of.result (made.shaped, made.weighs))
-
-pub judge-returns-in-Base : goal.judge-returns-in-Base
-judge-returns-in-Base t c =
-    let place = c.args.expr.now.span.start in
-    let v = c.args.scopes.now in
-    let is = ap (λ k. judge_kind k place v) c.in-Base.is ∙ judge_base place v in
-    let made = c.made_of-in-Base.ensures in
-    subst (λ j. IsJudged j (Ok c.made_of-in-Base.result)) (sym is) (word_passes place v (Ok c.made_of-in-Base.result) c.made_of-in-Base.result (made.shaped, made.weighs))
-
-pub judge-returns-in-Biw : goal.judge-returns-in-Biw
-judge-returns-in-Biw t c =
-    let place = c.args.expr.now.span.start in
-    let v = c.args.scopes.now in
-    let is = ap (λ k. judge_kind k place v) c.in-Biw.is ∙ judge_biw place v in
-    let made = c.made_of-in-Biw.ensures in
-    subst (λ j. IsJudged j (Ok c.made_of-in-Biw.result)) (sym is) (word_passes place v (Ok c.made_of-in-Biw.result) c.made_of-in-Biw.result (made.shaped, made.weighs))
+    subst (λ j. IsJudged j (Ok c.made_of.result)) (sym (plain_is place v c.args.expr.now.kind c.in-Number.is)) (word_passes place v (Ok c.made_of.result) c.made_of.result (made.shaped, made.weighs))
 
 pub judge-returns-in_err-parts-in-Struct : goal.judge-returns-in_err-parts-in-Struct
 judge-returns-in_err-parts-in-Struct t c =
@@ -85,65 +69,27 @@ judge-returns-in_ok-address-in-Load t c =
     subst (λ j. IsJudged j c.loaded_of.result) (sym is)
     (load_passes place v c.loaded_of.result c.in-Load.shape (judged c.get-in-Load.result.now v) c.in_ok-address-in-Load.address c.in_ok-address-in-Load.ensures c.loaded_of.ensures)
 
-pub judge-returns-in_err-address-in-LoadByte : goal.judge-returns-in_err-address-in-LoadByte
-judge-returns-in_err-address-in-LoadByte t c =
+pub judge-returns-in_err-of-in-LoadByte : goal.judge-returns-in_err-of-in-LoadByte
+judge-returns-in_err-of-in-LoadByte t c =
     let place = c.args.expr.now.span.start in
     let v = c.args.scopes.now in
-    let kind = c.args.expr.now.kind in
-    let is = load_byte_is place v kind c.in-LoadByte.address c.get-in-LoadByte.result.now c.in-LoadByte.is c.get-in-LoadByte.ensures in
-    first_refused (judged c.args.expr.now v) (judged c.get-in-LoadByte.result.now v) [] _ c.in_err-address-in-LoadByte.field-0.0 c.from_residual-in_err-address-in-LoadByte.result (ap (λ j. j.breaks) is) c.from_residual-in_err-address-in-LoadByte.ensures.1 c.in_err-address-in-LoadByte.ensures
+    let is = word_from_is place v c.args.expr.now.kind c.in-LoadByte.of c.get-in-LoadByte.result.now c.in-LoadByte.is c.get-in-LoadByte.ensures in
+    first_refused (judged c.args.expr.now v) (judged c.get-in-LoadByte.result.now v) [] _ c.in_err-of-in-LoadByte.field-0.0 c.from_residual-in_err-of-in-LoadByte.result (ap (λ j. j.breaks) is) c.from_residual-in_err-of-in-LoadByte.ensures.1 c.in_err-of-in-LoadByte.ensures
 
-pub judge-returns-in_ok-address-in-LoadByte : goal.judge-returns-in_ok-address-in-LoadByte
-judge-returns-in_ok-address-in-LoadByte t c =
+pub judge-returns-in_ok-of-in-LoadByte : goal.judge-returns-in_ok-of-in-LoadByte
+judge-returns-in_ok-of-in-LoadByte t c =
     let place = c.args.expr.now.span.start in
     let v = c.args.scopes.now in
-    let kind = c.args.expr.now.kind in
-    let is = load_byte_is place v kind c.in-LoadByte.address c.get-in-LoadByte.result.now c.in-LoadByte.is c.get-in-LoadByte.ensures in
+    let is = word_from_is place v c.args.expr.now.kind c.in-LoadByte.of c.get-in-LoadByte.result.now c.in-LoadByte.is c.get-in-LoadByte.ensures in
     subst (λ j. IsJudged j c.word_of.result) (sym is)
-    (word_from_one place v c.word_of.result (judged c.get-in-LoadByte.result.now v) c.in_ok-address-in-LoadByte.address c.in_ok-address-in-LoadByte.ensures c.word_of.ensures)
+    (word_from_one place v c.word_of.result (judged c.get-in-LoadByte.result.now v) c.in_ok-of-in-LoadByte.of c.in_ok-of-in-LoadByte.ensures c.word_of.ensures)
 
-pub judge-returns-in_err-of-in-Neg : goal.judge-returns-in_err-of-in-Neg
-judge-returns-in_err-of-in-Neg t c =
+pub judge-returns-in-Compare : goal.judge-returns-in-Compare
+judge-returns-in-Compare t c =
     let place = c.args.expr.now.span.start in
     let v = c.args.scopes.now in
-    let kind = c.args.expr.now.kind in
-    let is = neg_is place v kind c.in-Neg.of c.get-in-Neg.result.now c.in-Neg.is c.get-in-Neg.ensures in
-    first_refused (judged c.args.expr.now v) (judged c.get-in-Neg.result.now v) [] _ c.in_err-of-in-Neg.field-0.0 c.from_residual-in_err-of-in-Neg.result (ap (λ j. j.breaks) is) c.from_residual-in_err-of-in-Neg.ensures.1 c.in_err-of-in-Neg.ensures
-
-pub judge-returns-in_ok-of-in-Neg : goal.judge-returns-in_ok-of-in-Neg
-judge-returns-in_ok-of-in-Neg t c =
-    let place = c.args.expr.now.span.start in
-    let v = c.args.scopes.now in
-    let kind = c.args.expr.now.kind in
-    let is = neg_is place v kind c.in-Neg.of c.get-in-Neg.result.now c.in-Neg.is c.get-in-Neg.ensures in
-    subst (λ j. IsJudged j c.word_of-in-Neg.result) (sym is)
-    (word_from_one place v c.word_of-in-Neg.result (judged c.get-in-Neg.result.now v) c.in_ok-of-in-Neg.of c.in_ok-of-in-Neg.ensures c.word_of-in-Neg.ensures)
-
-pub judge-returns-in_err-first-in-Chain : goal.judge-returns-in_err-first-in-Chain
-judge-returns-in_err-first-in-Chain t c =
-    let place = c.args.expr.now.span.start in
-    let v = c.args.scopes.now in
-    let kind = c.args.expr.now.kind in
-    let is = chain_is place v kind c.in-Chain.first c.get-in-Chain.result.now c.in-Chain.rest c.in-Chain.rest (length c.in-Chain.rest) c.in-Chain.is c.get-in-Chain.ensures refl refl in
-    first_refused (judged c.args.expr.now v) (judged c.get-in-Chain.result.now v) (map (λ y. judged y.1 v) c.in-Chain.rest) _ c.in_err-first-in-Chain.field-0.0 c.from_residual-in_err-first-in-Chain.result (ap (λ j. j.breaks) is) c.from_residual-in_err-first-in-Chain.ensures.1 c.in_err-first-in-Chain.ensures
-
-pub judge-returns-in_err-terms-in-Chain : goal.judge-returns-in_err-terms-in-Chain
-judge-returns-in_err-terms-in-Chain t c =
-    let place = c.args.expr.now.span.start in
-    let v = c.args.scopes.now in
-    let kind = c.args.expr.now.kind in
-    let is = chain_is place v kind c.in-Chain.first c.get-in-Chain.result.now c.in-Chain.rest c.as_slice-in-Chain.result.now (length c.in-Chain.rest) c.in-Chain.is c.get-in-Chain.ensures c.as_slice-in-Chain.ensures refl in
-    others_refused (judged c.args.expr.now v) (judged c.get-in-Chain.result.now v) (map (λ y. judged y.1 v) c.as_slice-in-Chain.result.now) _ c.in_err-terms-in-Chain.field-0.0 c.from_residual-in_err-terms-in-Chain.result (ap (λ j. j.breaks) is)
-    c.in_ok-first-in-Chain.ensures.0 c.from_residual-in_err-terms-in-Chain.ensures.1 c.in_err-terms-in-Chain.ensures
-
-pub judge-returns-in_ok-terms-in-Chain : goal.judge-returns-in_ok-terms-in-Chain
-judge-returns-in_ok-terms-in-Chain t c =
-    let place = c.args.expr.now.span.start in
-    let v = c.args.scopes.now in
-    let kind = c.args.expr.now.kind in
-    let is = chain_is place v kind c.in-Chain.first c.get-in-Chain.result.now c.in-Chain.rest c.as_slice-in-Chain.result.now c.len.result c.in-Chain.is c.get-in-Chain.ensures c.as_slice-in-Chain.ensures c.len.ensures in
-    subst (λ j. IsJudged j c.chain_of.result) (sym is)
-    (chain_passes place v c.chain_of.result c.len.result (judged c.get-in-Chain.result.now v) (map (λ y. judged y.1 v) c.as_slice-in-Chain.result.now) c.in_ok-first-in-Chain.first c.in_ok-terms-in-Chain.terms c.in_ok-first-in-Chain.ensures c.in_ok-terms-in-Chain.ensures c.chain_of.ensures)
+    let is = compare_is place v c.args.expr.now.kind c.in-Compare.field-0 c.in-Compare.left c.in-Compare.right c.get-in-Compare.result.now c.get-in-Compare-2.result.now c.in-Compare.is c.get-in-Compare.ensures c.get-in-Compare-2.ensures in
+    subst (λ j. IsJudged j c.judge_compare.result) (sym is) c.judge_compare.ensures
 
 pub judge-returns-in_err-of-in-Shift : goal.judge-returns-in_err-of-in-Shift
 judge-returns-in_err-of-in-Shift t c =
@@ -162,32 +108,41 @@ judge-returns-in_ok-of-in-Shift t c =
     subst (λ j. IsJudged j c.shift_of.result) (sym is)
     (shift_passes place v c.shift_of.result c.as_slice-in-Shift.result.now (length c.as_slice-in-Shift.result.now) (judged c.get-in-Shift.result.now v) c.in_ok-of-in-Shift.of c.in_ok-of-in-Shift.ensures c.shift_of.ensures)
 
-pub judge-returns-in_err-left-in-Compare : goal.judge-returns-in_err-left-in-Compare
-judge-returns-in_err-left-in-Compare t c =
-    let place = c.args.expr.now.span.start in
+pub judge_compare-returns-in_err-left : goal.judge_compare-returns-in_err-left
+judge_compare-returns-in_err-left t c =
     let v = c.args.scopes.now in
-    let kind = c.args.expr.now.kind in
-    let is = compare_is place v kind c.in-Compare.field-0 c.in-Compare.left c.in-Compare.right c.get-in-Compare.result.now c.in-Compare.right c.in-Compare.is c.get-in-Compare.ensures refl in
-    first_refused (judged c.args.expr.now v) (judged c.get-in-Compare.result.now v) (judged c.in-Compare.right v ∷ []) _ c.in_err-left-in-Compare.field-0.0 c.from_residual-in_err-left-in-Compare.result (ap (λ j. j.breaks) is)
-    c.from_residual-in_err-left-in-Compare.ensures.1 c.in_err-left-in-Compare.ensures
+    first_refused (word_from c.args.place v (judged c.args.left.now v ∷ judged c.args.right.now v ∷ [])) (judged c.args.left.now v) (judged c.args.right.now v ∷ []) _ c.in_err-left.field-0.0 c.from_residual.result refl c.from_residual.ensures.1 c.in_err-left.ensures
 
-pub judge-returns-in_err-right-in-Compare : goal.judge-returns-in_err-right-in-Compare
-judge-returns-in_err-right-in-Compare t c =
-    let place = c.args.expr.now.span.start in
+pub judge_compare-returns-in_err-right : goal.judge_compare-returns-in_err-right
+judge_compare-returns-in_err-right t c =
     let v = c.args.scopes.now in
-    let kind = c.args.expr.now.kind in
-    let is = compare_is place v kind c.in-Compare.field-0 c.in-Compare.left c.in-Compare.right c.get-in-Compare.result.now c.get-in-Compare-2.result.now c.in-Compare.is c.get-in-Compare.ensures c.get-in-Compare-2.ensures in
-    second_refused (judged c.args.expr.now v) (judged c.get-in-Compare.result.now v) (judged c.get-in-Compare-2.result.now v) _ c.in_err-right-in-Compare.field-0.0 c.from_residual-in_err-right-in-Compare.result (ap (λ j. j.breaks) is)
-    c.in_ok-left-in-Compare.ensures.0 c.from_residual-in_err-right-in-Compare.ensures.1 c.in_err-right-in-Compare.ensures
+    second_refused (word_from c.args.place v (judged c.args.left.now v ∷ judged c.args.right.now v ∷ [])) (judged c.args.left.now v) (judged c.args.right.now v) _ c.in_err-right.field-0.0 c.from_residual-in_err-right.result refl c.in_ok-left.ensures.0
+    c.from_residual-in_err-right.ensures.1 c.in_err-right.ensures
 
-pub judge-returns-in_ok-right-in-Compare : goal.judge-returns-in_ok-right-in-Compare
-judge-returns-in_ok-right-in-Compare t c =
-    let place = c.args.expr.now.span.start in
+pub judge_compare-returns : goal.judge_compare-returns
+judge_compare-returns t c =
     let v = c.args.scopes.now in
-    let kind = c.args.expr.now.kind in
-    let is = compare_is place v kind c.in-Compare.field-0 c.in-Compare.left c.in-Compare.right c.get-in-Compare.result.now c.get-in-Compare-2.result.now c.in-Compare.is c.get-in-Compare.ensures c.get-in-Compare-2.ensures in
-    subst (λ j. IsJudged j c.word_of_both.result) (sym is)
-    (word_from_both place v c.word_of_both.result (judged c.get-in-Compare.result.now v) (judged c.get-in-Compare-2.result.now v) c.in_ok-left-in-Compare.left c.in_ok-right-in-Compare.right c.in_ok-left-in-Compare.ensures c.in_ok-right-in-Compare.ensures c.word_of_both.ensures)
+    word_from_both c.args.place v c.word_of_both.result (judged c.args.left.now v) (judged c.args.right.now v) c.in_ok-left.left c.in_ok-right.right c.in_ok-left.ensures c.in_ok-right.ensures c.word_of_both.ensures
+
+pub judge_chain-returns-in_err-first : goal.judge_chain-returns-in_err-first
+judge_chain-returns-in_err-first t c =
+    let v = c.args.scopes.now in
+    let is = judge_chain c.args.place v c.args.first.now c.args.rest.now in
+    first_refused (judge_kind (e.Chain c.args.first.now c.args.rest.now) c.args.place v) (judged c.args.first.now v) (map (λ y. judged y.1 v) c.args.rest.now) _ c.in_err-first.field-0.0 c.from_residual.result (ap (λ j. j.breaks) is) c.from_residual.ensures.1 c.in_err-first.ensures
+
+pub judge_chain-returns-in_err-terms : goal.judge_chain-returns-in_err-terms
+judge_chain-returns-in_err-terms t c =
+    let v = c.args.scopes.now in
+    let is = judge_chain c.args.place v c.args.first.now c.args.rest.now in
+    others_refused (judge_kind (e.Chain c.args.first.now c.args.rest.now) c.args.place v) (judged c.args.first.now v) (map (λ y. judged y.1 v) c.args.rest.now) _ c.in_err-terms.field-0.0 c.from_residual-in_err-terms.result (ap (λ j. j.breaks) is)
+    c.in_ok-first.ensures.0 c.from_residual-in_err-terms.ensures.1 c.in_err-terms.ensures
+
+pub judge_chain-returns : goal.judge_chain-returns
+judge_chain-returns t c =
+    let v = c.args.scopes.now in
+    let n = length c.args.rest.now in
+    subst (λ j. IsJudged j c.chain_of.result) (sym (judge_chain c.args.place v c.args.first.now c.args.rest.now))
+    (chain_passes c.args.place v c.chain_of.result n (judged c.args.first.now v) (map (λ y. judged y.1 v) c.args.rest.now) c.in_ok-first.first c.in_ok-terms.terms c.in_ok-first.ensures c.in_ok-terms.ensures c.chain_of.ensures)
 
 pub judge_parts-returns-in_err-part : goal.judge_parts-returns-in_err-part
 judge_parts-returns-in_err-part t c =

@@ -1,5 +1,7 @@
-use Rattle.std.proofs.Common.{◌≡◌, ◌≤◌, ◌++◌, ◌+◌, ◌-◌, ◌^◌, ◌*◌, ◌||◌, min, map, drop}
+use Rattle.std.proofs.Common.{◌≡◌, ◌≤◌, ◌++◌, ◌+◌, ◌-◌, ◌^◌, ◌*◌, ◌||◌, min, max, map, drop}
+use Rattle.pan_tree.specs.declared.syntax.ExprKind.{size-ExprKind}
 use Rattle.pan_tree.specs.Check as check
+use denote.Param.Weighed.{most}
 use Rattle.pan_tree.specs.Check.{judged}
 use Rattle.pan_shapes.proofs.judging.+judge.Given as goal
 
@@ -22,12 +24,18 @@ invariant-judge_terms-loop-term l =
     × (min (l.weight + check.weights left) (2 ^ 64 - 1) ≡ min (check.weights all) (2 ^ 64 - 1))
     × (l.weight ≤ 2 ^ 64 - 1)
 
--- an expression calls parts and terms, and these call expressions
+-- an expression calls those that go over its parts, a chain calls its terms, and all of them call expressions
 abbrev pub decreases-judge : goal.decreases-judge
-decreases-judge l = 2 * goal.size-judge l
+decreases-judge l = 3 * goal.size-judge l
+
+abbrev pub decreases-judge_compare : goal.decreases-judge_compare
+decreases-judge_compare l = 3 * max (size-ExprKind l.left.now.kind) (size-ExprKind l.right.now.kind) + 1
+
+abbrev pub decreases-judge_chain : goal.decreases-judge_chain
+decreases-judge_chain l = 3 * max (size-ExprKind l.first.now.kind) (most (λ y. size-ExprKind y.1.kind) l.rest.now) + 2
 
 abbrev pub decreases-judge_parts : goal.decreases-judge_parts
-decreases-judge_parts l = 2 * goal.size-judge_parts l + 1
+decreases-judge_parts l = 3 * goal.size-judge_parts l + 1
 
 abbrev pub decreases-judge_terms : goal.decreases-judge_terms
-decreases-judge_terms l = 2 * goal.size-judge_terms l + 1
+decreases-judge_terms l = 3 * goal.size-judge_terms l + 1
