@@ -2,6 +2,8 @@
 #![tactic(auto)]
 
 mod building;
+#[cfg(test)]
+mod check_tests;
 mod checking;
 mod command;
 mod error;

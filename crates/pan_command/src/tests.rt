@@ -17,7 +17,7 @@ fn bytes_of(alloc: Global, files: &mut MemFiles, name: &str) -> Result<Blob, NoM
 }
 
 /// The words of a line, parted by single spaces.
-fn words_of(alloc: Global, line: &str) -> Result<List<Text>, NoMemory> {
+pub fn words_of(alloc: Global, line: &str) -> Result<List<Text>, NoMemory> {
     let mut words = List::new(alloc);
     for word in line.split_whitespace() {
         words.push(Text::from_str(alloc, word)?)?;
@@ -26,10 +26,14 @@ fn words_of(alloc: Global, line: &str) -> Result<List<Text>, NoMemory> {
 }
 
 /// Files with `a.pan`, and the calls that are to fail.
-fn files_with(alloc: Global, source: &str, failing: Option<Failing>) -> Result<MemFiles, NoMemory> {
+pub fn files_with(
+    alloc: Global,
+    source: &[u8],
+    failing: Option<Failing>,
+) -> Result<MemFiles, NoMemory> {
     let mut files = List::new(alloc);
     let name = Text::from_str(alloc, "a.pan")?;
-    files.push((name, Blob::from_slice(alloc, source.as_bytes())?))?;
+    files.push((name, Blob::from_slice(alloc, source)?))?;
     let old = Text::from_str(alloc, "a.img")?;
     files.push((old, Blob::from_slice(alloc, b"old")?))?;
     let mut calls = List::new(alloc);
@@ -65,15 +69,20 @@ fn answers(rt: HostRuntime) -> Result<(), Fail> {
             "0 Unsupported\n",
             4,
         ),
-        ("compile a.pan a.img", "", "0 Unsupported\n", 4),
+        ("compile a.pan a.img", "", "0 NoMain\n", 4),
         ("compile a.pan", FIRST, "usage\n", 2),
         ("compile a.pan -a.img", FIRST, "usage\n", 2),
-        ("check a.pan", FIRST, "usage\n", 2),
+        ("check a.pan", FIRST, "ok 23\n", 0),
+        ("check", FIRST, "usage\n", 2),
+        ("check -a.pan", FIRST, "usage\n", 2),
+        ("check a.pan a.img", FIRST, "usage\n", 2),
+        ("weigh a.pan", FIRST, "usage\n", 2),
         ("", FIRST, "usage\n", 2),
         ("compile b.pan a.img", FIRST, "read b.pan\n", 3),
+        ("check b.pan", FIRST, "read b.pan\n", 3),
     ] {
         let words = words_of(alloc, line)?;
-        let mut files = files_with(alloc, source, None)?;
+        let mut files = files_with(alloc, source.as_bytes(), None)?;
         let mut out = MemSink::new(alloc, 100, List::new(alloc))?;
         assert_eq!(rt;
             panc(alloc, words.as_slice(), &mut files, &mut out),
@@ -96,7 +105,7 @@ fn answers(rt: HostRuntime) -> Result<(), Fail> {
 /// What `compile` prints of a source, and its status.
 fn compiled(alloc: Global, source: &str) -> Result<(u8, Blob), NoMemory> {
     let words = words_of(alloc, "compile a.pan a.img")?;
-    let mut files = files_with(alloc, source, None)?;
+    let mut files = files_with(alloc, source.as_bytes(), None)?;
     let mut out = MemSink::new(alloc, 100, List::new(alloc))?;
     let status = panc(alloc, words.as_slice(), &mut files, &mut out);
     Ok((status, Blob::from_slice(alloc, out.bytes())?))
@@ -114,6 +123,7 @@ fn refuses_sources(rt: HostRuntime) -> Result<(), Fail> {
         ("fun main() { return 1 + ; }", "24 Syntax\n"),
         ("fun main() { return 1 +", "23 Syntax\n"),
         ("fun main() { skip; return 1; }", "0 Unsupported\n"),
+        ("fun main() { skip; return y; }", "26 UnknownName\n"),
     ] {
         let (status, line) = compiled(rt.alloc(), source)?;
         assert_eq!(rt; status, 4, "{source}");
@@ -137,7 +147,7 @@ fn reads_trees(rt: HostRuntime) -> Result<(), Fail> {
 fn writes_the_image(rt: HostRuntime) -> Result<(), Fail> {
     let alloc = rt.alloc();
     let words = words_of(alloc, "compile a.pan a.img")?;
-    let mut files = files_with(alloc, FIRST, None)?;
+    let mut files = files_with(alloc, FIRST.as_bytes(), None)?;
     let mut out = MemSink::new(alloc, 100, List::new(alloc))?;
     assert_eq!(rt; panc(alloc, words.as_slice(), &mut files, &mut out), 0);
     let image: &[u8] = &FIRST_IMAGE;
@@ -159,7 +169,7 @@ fn meets_faults(rt: HostRuntime) -> Result<(), Fail> {
         (fault(1, None), "write a.img\n", "old"),
         (fault(1, Some(2)), "write a.img\n", "PN"),
     ] {
-        let mut files = files_with(alloc, FIRST, failing)?;
+        let mut files = files_with(alloc, FIRST.as_bytes(), failing)?;
         let mut out = MemSink::new(alloc, 100, List::new(alloc))?;
         let status = panc(alloc, words.as_slice(), &mut files, &mut out);
         assert_eq!(rt;
@@ -178,7 +188,7 @@ fn meets_faults(rt: HostRuntime) -> Result<(), Fail> {
     }
 
     // The line of the bound can't be put, and the image stands.
-    let mut files = files_with(alloc, FIRST, None)?;
+    let mut files = files_with(alloc, FIRST.as_bytes(), None)?;
     let mut out = MemSink::new(alloc, 5, List::new(alloc))?;
     assert_eq!(rt; panc(alloc, words.as_slice(), &mut files, &mut out), 7);
     let image: &[u8] = &FIRST_IMAGE;

@@ -15,9 +15,11 @@ returns-in-Ok-put_weight_line g c =
     let bytes : List ℕ = c.as_slice.result.now in
     let held : Holds (g.W.Workspace.state c.args.files.now).files c.args.source.now bytes = rw c.as_slice.ensures q.1.0 in
     let read = c.in-Ok-read_program in
-    let line : Took (g.O.Sink.state c.args.out.now) (g.O.Sink.state c.put_weight_line.new.out) (weight_line (program_weight read.checked)) = search rules in
-    (q.0, passed_so (outside (g.W.Workspace.state c.args.files.now) (g.O.Sink.state c.args.out.now)) c.args.source.now bytes held
-    (Took (g.O.Sink.state c.args.out.now) (g.O.Sink.state c.put_weight_line.new.out)) read.checked read.ensures.checked read.ensures.passes read.ensures.exact line)
+    let line : Took (g.O.Sink.state c.args.out.now) (g.O.Sink.state c.put_weight_line.new.out) (weight_line (program_weight read.checked)) = search rules in (
+      q.0,
+      passed_so (outside (g.W.Workspace.state c.args.files.now) (g.O.Sink.state c.args.out.now)) c.args.source.now bytes held
+          (Took (g.O.Sink.state c.args.out.now) (g.O.Sink.state c.put_weight_line.new.out)) read.checked read.ensures.checked read.ensures.passes read.ensures.exact line,
+    )
 
 pub returns-in-Ok-read_program : goal.returns-in-Ok-read_program
 returns-in-Ok-read_program g c =
@@ -38,9 +40,11 @@ returns-in-Ok-put_source_line g c =
     let held : Holds (g.W.Workspace.state c.args.files.now).files c.args.source.now bytes = rw c.as_slice.ensures q.1.0 in
     let read = c.in-Err-read_program in
     let other : read.error ≡ NoMemory → ⊥ = search rules in
-    let line : Took (g.O.Sink.state c.args.out.now) (g.O.Sink.state c.put_source_line.new.out) (source_line read.error) = search rules in
-    (q.0, unpassed_so (outside (g.W.Workspace.state c.args.files.now) (g.O.Sink.state c.args.out.now)) c.args.source.now bytes held
-    (Took (g.O.Sink.state c.args.out.now) (g.O.Sink.state c.put_source_line.new.out)) read.error other read.ensures.refused read.ensures.passes read.ensures.exact line)
+    let line : Took (g.O.Sink.state c.args.out.now) (g.O.Sink.state c.put_source_line.new.out) (source_line read.error) = search rules in (
+      q.0,
+      unpassed_so (outside (g.W.Workspace.state c.args.files.now) (g.O.Sink.state c.args.out.now)) c.args.source.now bytes held
+          (Took (g.O.Sink.state c.args.out.now) (g.O.Sink.state c.put_source_line.new.out)) read.error other read.ensures.refused read.ensures.passes read.ensures.exact line,
+    )
 
 pub returns : goal.returns
 returns g c =
