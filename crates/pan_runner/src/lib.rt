@@ -1,0 +1,6 @@
+//! Runs sources: an asker that means what the source means.
+#![tactic(auto)]
+
+mod resolved;
+mod shared;
+mod value;
