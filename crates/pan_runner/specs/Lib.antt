@@ -1,3 +1,4 @@
 pub mod formers
+pub mod Resolving
 pub mod Told
 pub mod Slots
