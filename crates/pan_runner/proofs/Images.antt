@@ -46,6 +46,9 @@ module _ {V U X : Type 0} (f : V → U) where
         by (Raised i x w) b = record { same = refl; so = tt }
         by (Over e w) b = record { same = refl; so = tt }
 
+    pub shown_as : (o : Outcome V X) (o' o'' : Outcome U X) → o' ≡ o'' → Shown f N B o o'' → Shown f N B o o'
+    shown_as o o' o'' e s = record { same = e ∙ s.same; so = s.so }
+
     -- what is known of the variables is less
     pub less_shown : (M C : V → Type 0) (o : Outcome V X) (o' : Outcome U X) → ((v : V) → N v → M v) → ((v : V) → B v → C v) → Shown f N B o o' → Shown f M C o o'
     less_shown M C o o' n b s = record { same = s.same; so = by o s.so }
@@ -58,9 +61,6 @@ module _ {V U X : Type 0} (f : V → U) where
         by (Raised i x w) h = tt
         by (Over e w) h = tt
 
-    pub over_shown : (o : Outcome V X) (o' : Outcome U X) → o' ≡ image f o → Fits N B o → Shown f N B o o'
-    over_shown o o' e h = record { same = e; so = h }
-
     pub with_shown : {A : Type 0} (a a' : Option A) → a' ≡ a → (w : World) (go : A → Outcome V X) (go' : A → Outcome U X) → ((x : A) → Shown f N B (go x) (go' x))
         → Shown f N B (with_value a w go) (with_value a' (bare w) go')
     with_shown {A} a a' e w go go' h = subst (λ (a' : Option A). Shown f N B (with_value a w go) (with_value a' (bare w) go')) (sym e) (by a)
@@ -68,6 +68,12 @@ module _ {V U X : Type 0} (f : V → U) where
         by : (a : Option A) → Shown f N B (with_value a w go) (with_value a (bare w) go')
         by None = record { same = refl; so = tt }
         by (Some x) = h x
+
+    -- the same, where what goes on knows the value
+    pub with_known_shown : {A : Type 0} (a : Option A) (w : World) (go : A → Outcome V X) (go' : A → Outcome U X) → ((x : A) → a ≡ Some x → Shown f N B (go x) (go' x))
+        → Shown f N B (with_value a w go) (with_value a (bare w) go')
+    with_known_shown None w go go' h = record { same = refl; so = tt }
+    with_known_shown (Some x) w go go' h = h x refl
 
     pub where_shown : (b : Bool) (w : World) (o : Outcome V X) (o' : Outcome U X) → Shown f N B o o' → Shown f N B (where_true b w o) (where_true b (bare w) o')
     where_shown false w o o' h = record { same = refl; so = tt }

@@ -1,2 +1,4 @@
 pub mod Images
 pub mod Placing
+pub mod ResolvedExprs
+pub mod ResolvedStmts
