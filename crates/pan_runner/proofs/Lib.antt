@@ -1,4 +1,5 @@
 pub mod Images
 pub mod Placing
 pub mod ResolvedExprs
+pub mod ResolvedPrograms
 pub mod ResolvedStmts

@@ -2,10 +2,9 @@
 use Rattle.std.proofs.Common.{◌≡◌, ℕ, List, [], ◌∷◌, map, Option, Some, None, refl, sym, ap, subst, ◌∙◌}
 use Rattle.std.specs.Option.{option_map, option_and_then}
 use Rattle.pan_base.specs.declared.operators.BinOp.{BinOp}
-use Rattle.pan_base.specs.declared.operators.Cmp.{Cmp}
 use Rattle.pan_base.specs.Words.{operate, negate, truth, base_address, bytes_in_word}
 use Rattle.pan_control.specs.Memory.{byte_at, words_at}
-use Rattle.pan_tree.specs.Value.{Value, Word, Struct, values_of, part_of_part}
+use Rattle.pan_tree.specs.Value.{Word, Struct, values_of, part_of_part}
 use Rattle.pan_tree.specs.Shapes.{words_of, filled}
 use Rattle.pan_tree.specs.Meaning as source
 use Rattle.pan_tree.specs.Meaning.{Scopes, as_word, all_given, shifted}
