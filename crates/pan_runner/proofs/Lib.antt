@@ -1,4 +1,5 @@
 pub mod Images
+pub mod NumberLemmas
 pub mod Placing
 pub mod ResolvedExprs
 pub mod ResolvedPrograms
