@@ -1,5 +1,6 @@
 pub mod Images
 pub mod NumberLemmas
+pub mod PlaceLemmas
 pub mod Placing
 pub mod ResolvedExprs
 pub mod ResolvedPrograms

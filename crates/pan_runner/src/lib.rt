@@ -2,6 +2,7 @@
 #![tactic(auto)]
 
 mod numbers;
+mod places;
 mod resolved;
 mod shared;
 mod value;

@@ -1,6 +1,6 @@
 //! Names that stand for numbers.
 
-ghost use Rattle.std.specs.Prelude.{◌≡◌, [], ◌∷◌, ◌++◌, length, OnOk};
+ghost use Rattle.std.specs.Prelude.{◌≡◌, [], ◌∷◌, ◌++◌, length, OnOk, OnErr};
 ghost use Rattle.pan_tree.specs.Scopes.{in_scope};
 
 use indexmap::IndexMap;
@@ -54,7 +54,8 @@ impl<'p> Numbers<'p> {
 
     /// Adds a name. Without memory all stays as it was.
     pub fn add(&mut self, name: &'p [u8], number: usize) -> Result<(), NoMemory>
-        ensures { OnOk result (self.new ≡ self.old ++ (name.now, number) ∷ []) }
+        ensures added { OnOk result (self.new ≡ self.old ++ (name.now, number) ∷ []) }
+        ensures kept { OnErr result (self.new ≡ self.old) }
     {
         let is_known = self.find(name).is_some();
         self.all.push((name, number))?;
