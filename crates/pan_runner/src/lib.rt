@@ -1,6 +1,7 @@
 //! Runs sources: an asker that means what the source means.
 #![tactic(auto)]
 
+mod directory;
 mod numbers;
 mod places;
 mod resolved;
