@@ -5,3 +5,4 @@ pub mod Placing
 pub mod ResolvedExprs
 pub mod ResolvedPrograms
 pub mod ResolvedStmts
+pub mod ResolvingExprs

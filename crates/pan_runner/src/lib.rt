@@ -5,5 +5,6 @@ mod directory;
 mod numbers;
 mod places;
 mod resolved;
+mod resolving_exprs;
 mod shared;
 mod value;
