@@ -1,0 +1,5 @@
+pub mod formers
+pub mod Numbering
+pub mod Resolving
+pub mod Told
+pub mod Slots

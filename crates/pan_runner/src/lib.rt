@@ -1,0 +1,10 @@
+//! Runs sources: an asker that means what the source means.
+#![tactic(auto)]
+
+mod directory;
+mod numbers;
+mod places;
+mod resolved;
+mod resolving_exprs;
+mod shared;
+mod value;
