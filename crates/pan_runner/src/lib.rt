@@ -4,3 +4,4 @@
 mod resolved;
 mod shared;
 mod value;
+mod values;
