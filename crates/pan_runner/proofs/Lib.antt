@@ -1,3 +1,5 @@
 pub mod FillLemmas
+pub mod LoadLemmas
 pub mod LocalWords
+pub mod ShiftLemmas
 pub mod ToldLayers
