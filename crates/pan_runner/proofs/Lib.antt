@@ -1,4 +1,5 @@
 pub mod FillLemmas
+pub mod GivingLayers
 pub mod LoadLemmas
 pub mod LocalWords
 pub mod ShiftLemmas

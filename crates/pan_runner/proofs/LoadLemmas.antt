@@ -60,10 +60,10 @@ words_none m zero addr word far = absurd (omega arith)
 words_none m (suc k) addr word far =
     behind_none (word_at m addr) (words_at m (next_word addr) (suc k))
     (
-      elim (cases_lt (addr + 8) (2 ^ 64)) [
-        inl on ↦ ap (λ a. words_at m a (suc k)) (mod-eq_of_lt on) ∙ words_none m k (addr + 8) on (omega arith)
-        | inr round ↦ below_none m (next_word addr) k (omega arith)
-      ]
+    elim (cases_lt (addr + 8) (2 ^ 64)) [
+      | inl on ↦ ap (λ a. words_at m a (suc k)) (mod-eq_of_lt on) ∙ words_none m k (addr + 8) on (omega arith)
+      | inr round ↦ below_none m (next_word addr) k (omega arith)
+    ]
     )
 
 words_far : (m : List ℕ) (addr n : ℕ) → addr < 2 ^ 64 → 2 ^ 64 - 1 ≤ n → words_at m addr n ≡ None
@@ -75,7 +75,7 @@ words_far m addr n word far =
 words_capped : (m : List ℕ) (addr n k : ℕ) → addr < 2 ^ 64 → k ≡ min n (2 ^ 64 - 1) → words_at m addr k ≡ words_at m addr n
 words_capped m addr n k word is =
     elim (cases_lt n (2 ^ 64 - 1)) [
-      inl few ↦ (let same : k ≡ n = omega arith in ap (words_at m addr) same)
+      | inl few ↦ (let same : k ≡ n = omega arith in ap (words_at m addr) same)
       | inr many ↦ words_far m addr k word (omega arith) ∙ sym (words_far m addr n word many)
     ]
 
