@@ -1,4 +1,8 @@
+pub mod FillLemmas
+pub mod GivingLayers
 pub mod Images
+pub mod LoadLemmas
+pub mod LocalWords
 pub mod NumberLemmas
 pub mod PlaceLemmas
 pub mod Placing
@@ -6,3 +10,5 @@ pub mod ResolvedExprs
 pub mod ResolvedPrograms
 pub mod ResolvedStmts
 pub mod ResolvingExprs
+pub mod ShiftLemmas
+pub mod ToldLayers

@@ -2,9 +2,12 @@
 #![tactic(auto)]
 
 mod directory;
+mod evaluating;
+mod memory;
 mod numbers;
 mod places;
 mod resolved;
 mod resolving_exprs;
 mod shared;
 mod value;
+mod values;
