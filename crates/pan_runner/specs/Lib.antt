@@ -1,3 +1,4 @@
 pub mod formers
 pub mod Told
 pub mod Slots
+pub mod Unbounded

@@ -1,0 +1,2 @@
+pub mod StmtLayers
+pub mod NoBound
