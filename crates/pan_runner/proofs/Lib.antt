@@ -1,2 +1,3 @@
 pub mod StmtLayers
 pub mod NoBound
+pub mod Unfolding

@@ -3,14 +3,14 @@ use Rattle.std.proofs.Common.{◌≡◌, ℕ, zero, suc, ◌+◌, ◌-◌, ◌�
 use Rattle.std.specs.Prelude.{nat_eq, if◌then◌else◌, slice_get, ◌*◌, ◌^◌, ◌%◌}
 use Rattle.std.specs.Option.{option_map_or}
 use Rattle.pan_control.specs.World.{World}
-use Rattle.pan_control.specs.Control.{Outcome, Normal, Raised, Meaning, Callee, in_turn, with_value, where_true, left, on_variables, world_of}
-use Rattle.pan_control.proofs.Bound.{Lower, Falls, Steady, SteadyCallee, AllSteady, stays, value_lower, where_lower, choice_lower, ask_lower, value_same, where_same, choice_same, turns_steady, in_turn_steady, call_same, call_lower, tail_same, tail_lower, left_fuel, on_fuel}
+use Rattle.pan_control.specs.Control.{Outcome, Normal, Raised, Callee, in_turn, where_true, left, on_variables}
+use Rattle.pan_control.proofs.Bound.{Lower, Steady, SteadyCallee, AllSteady, stays, value_lower, where_lower, choice_lower, ask_lower, value_same, where_same, choice_same, turns_steady, in_turn_steady, call_same, call_lower, tail_same, tail_lower, left_fuel, on_fuel}
 use Rattle.pan_control.specs.Memory.{is_shared, bytes_at, with_byte, with_words}
 use Rattle.pan_base.specs.Events as events
 use Rattle.pan_base.specs.Events.{byte_count}
 use Rattle.pan_tree.specs.Value.{Value, Word, words_in}
 use Rattle.pan_tree.specs.Meaning.{number, with_reply}
-use Rattle.pan_runner.specs.Slots.{Variables, Does, scoped, into, into_nothing, assigned, caught, foreign, act_layer, run, body_of, calls, word, value, values}
+use Rattle.pan_runner.specs.Slots.{Variables, Does, scoped, into_nothing, assigned, caught, foreign, act_layer, run, calls, word, value, values}
 use Rattle.pan_runner.specs.Unbounded.{does, enters}
 use Rattle.pan_runner.specs.declared.resolved.Expr.{Expr}
 use Rattle.pan_runner.specs.declared.resolved.Stmt.{Stmt, Stmt-F, roll-Stmt, map-Stmt}
