@@ -1,3 +1,4 @@
 pub mod StmtLayers
 pub mod NoBound
 pub mod Unfolding
+pub mod Steps

@@ -2,3 +2,5 @@ pub mod formers
 pub mod Told
 pub mod Slots
 pub mod Unbounded
+pub mod Machine
+pub mod Going
