@@ -2,3 +2,4 @@ pub mod StmtLayers
 pub mod NoBound
 pub mod Unfolding
 pub mod Steps
+pub mod EvenLayers
