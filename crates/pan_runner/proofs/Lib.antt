@@ -3,3 +3,4 @@ pub mod NoBound
 pub mod Unfolding
 pub mod Steps
 pub mod EvenLayers
+pub mod Later

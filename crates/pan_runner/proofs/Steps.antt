@@ -70,7 +70,7 @@ module _ (names : List (List ℕ)) (p : Program) where
   where_left true o w = sym (left_on (take 0) o)
 
   -- a function's body, and then leaving it
-  enters_is : (f : ℕ) (xs : List Value) (w : World) → enters names p f xs w ≡ left (body_ends names p f xs w)
+  pub enters_is : (f : ℕ) (xs : List Value) (w : World) → enters names p f xs w ≡ left (body_ends names p f xs w)
   enters_is f xs w = at (slice_get p.functions f)
     where
       at : (o : Option Function) → with_value o w (λ g. where_true (nat_eq (length xs) g.params) w (left {U = Unit {0}} (all_do names p g.body xs w))) ≡ left {U = Unit {0}} (with_value o w (λ g. where_true (nat_eq (length xs) g.params) w (on_variables (take 0) (all_do names p g.body xs w))))
