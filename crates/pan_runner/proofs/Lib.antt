@@ -4,3 +4,4 @@ pub mod Unfolding
 pub mod Steps
 pub mod EvenLayers
 pub mod Later
+pub mod Lighter

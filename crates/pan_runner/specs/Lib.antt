@@ -4,3 +4,5 @@ pub mod Slots
 pub mod Unbounded
 pub mod Machine
 pub mod Going
+pub mod Weight
+pub mod Ahead
