@@ -5,3 +5,5 @@ pub mod Steps
 pub mod EvenLayers
 pub mod Later
 pub mod Lighter
+pub mod Sizes
+pub mod Reaching
