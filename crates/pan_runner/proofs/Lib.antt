@@ -1,3 +1,5 @@
+pub mod Bound
+pub mod Worlds
 pub mod FillLemmas
 pub mod GivingLayers
 pub mod Images
@@ -12,3 +14,12 @@ pub mod ResolvedStmts
 pub mod ResolvingExprs
 pub mod ShiftLemmas
 pub mod ToldLayers
+pub mod StmtLayers
+pub mod NoBound
+pub mod Unfolding
+pub mod Steps
+pub mod EvenLayers
+pub mod Later
+pub mod Lighter
+pub mod Sizes
+pub mod Reaching

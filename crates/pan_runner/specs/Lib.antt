@@ -5,3 +5,8 @@ pub mod Told
 pub mod Stored
 pub mod Slots
 pub mod Evaluating
+pub mod Unbounded
+pub mod Machine
+pub mod Going
+pub mod Weight
+pub mod Ahead

@@ -1,6 +1,6 @@
 -- What a resolved program means: what it does as the source does it, with the variables in one list, in the order of their declarations.
 -- Costs and work, which no behaviour shows, aren't counted.
-use Rattle.std.specs.Prelude.{ℕ, zero, suc, ◌*◌, ◌%◌, ◌^◌, nat_eq, false, if◌then◌else◌, List, [], ◌∷◌, ◌++◌, map, length, take, Option, Some, None, option_and_then, option_map, slice_get, slice_set, unwrap_or}
+use Rattle.std.specs.Prelude.{ℕ, zero, suc, ◌*◌, ◌%◌, ◌^◌, nat_eq, false, if◌then◌else◌, List, [], ◌∷◌, ◌++◌, map, length, take, Option, Some, None, option_and_then, option_map, slice_get, slice_set}
 use Rattle.std.specs.Option.{option_map_or}
 use Rattle.pan_base.specs.declared.operators.BinOp.{BinOp}
 use Rattle.pan_base.specs.Words.{operate, negate, truth}
@@ -92,8 +92,9 @@ caught (Some h) u i a w = if option_map_or (nat_eq i) h.exception false then sco
 module _ (names : List (List ℕ)) where
   abbrev pub foreign : ℕ → ℕ → ℕ → ℕ → ℕ → Does
   foreign i conf conf_len array array_len u w =
+      with_value (slice_get names i) w (λ name.
       with_value (bytes_at w.memory conf conf_len) w (λ c. with_value (bytes_at w.memory array array_len) w (λ a.
-      ask (events.Foreign i (unwrap_or (slice_get names i) []) c a) w (λ r w. Normal u (record w { memory = with_reply w.memory array r }))))
+      ask (events.Foreign i name c a) w (λ r w. Normal u (record w { memory = with_reply w.memory array r })))))
 
   module _ (d : ℕ) (callee : Callee (List Value) Value) where
     abbrev pub act_layer : Stmt-F Does → Does
