@@ -1,8 +1,8 @@
 -- Variables of blocks, of which the last of a row is the innermost.
-use Rattle.std.proofs.Common.{length-append, ◌≡◌, ℕ, suc, ◌+◌, ◌-◌, ◌≤◌, set, arith, length, take, reverse, get_or, List, [], ◌∷◌, ◌++◌, refl, sym, ap, subst, ◌∙◌}
+use Rattle.std.proofs.Common.{length-append, ◌≡◌, ℕ, ◌+◌, ◌≤◌, set, arith, length, take, reverse, get_or, List, [], ◌∷◌, ◌++◌, sym, ap, ◌∙◌}
 use Rattle.std.proofs.Math.Seq.{set-append_seam}
 use Rattle.std.proofs.lemmas.List.{take_all, length-take-le, take_more, reverse-append, length-reverse, set-get_or}
-use Rattle.pan_tree.specs.Scopes.{ScopeOf, ScopesOf, declare}
+use Rattle.pan_tree.specs.Scopes.{ScopeOf, declare}
 use Rattle.pan_runner.specs.Resolving.{Places, count, with_variable}
 
 -- a declaration in the last block

@@ -1,14 +1,14 @@
 -- A resolved statement does what the source's does.
-use Rattle.std.proofs.Common.{◌≡◌, ℕ, ◌^◌, ◌*◌, ◌%◌, nat_eq, Bool, true, false, if◌then◌else◌, List, [], ◌∷◌, map, length, take, drop, Option, Some, None, slice_get, unwrap_or, get_or, refl, sym, ap, subst, ◌∙◌}
+use Rattle.std.proofs.Common.{◌≡◌, ℕ, ◌^◌, ◌*◌, ◌%◌, nat_eq, Bool, true, false, if◌then◌else◌, List, [], ◌∷◌, map, length, take, drop, Option, Some, None, slice_get, get_or, refl, sym, ap, subst, ◌∙◌}
 use Rattle.std.specs.Option.{option_map_or}
 use Rattle.std.specs.Str.{bytes_eq}
 use Rattle.std.proofs.lemmas.Slice.Eq.{bytes_eq-Decides}
-use Rattle.std.proofs.lemmas.Option.{unwrap_or-slice_get}
+use Rattle.std.proofs.lemmas.Option.{slice_get-get_or}
 use Rattle.std.proofs.lemmas.List.Quantifiers.{position-Some}
 use Rattle.pan_base.specs.Events.{Load, Store, Foreign, byte_count}
 use Rattle.pan_control.specs.World.{World, tolled}
 use Rattle.pan_control.specs.Memory.{is_shared, bytes_at, with_byte, with_words}
-use Rattle.pan_control.specs.Control.{Outcome, Normal, Broken, Continued, Returned, Raised, Over, Callee, in_turn, ask}
+use Rattle.pan_control.specs.Control.{Outcome, Normal, Broken, Continued, Returned, Raised, Over, Callee, in_turn, ask, with_value}
 use Rattle.pan_tree.specs.Scopes.{innermost}
 use Rattle.pan_tree.specs.Value.{Value, Word, words_in}
 use Rattle.pan_tree.specs.Shapes.{zero_of}
@@ -48,9 +48,10 @@ statement_induct P at k = ind-StmtKind P (λ x y is. subst (λ x. P (roll-StmtKi
 
 -- ---- names
 
-foreign_name : (name : List ℕ) (p : Source) (i : ℕ) → foreign_index name p ≡ Some i → unwrap_or (slice_get (foreign_names p) i) [] ≡ name
+foreign_name : (name : List ℕ) (p : Source) (i : ℕ) → foreign_index name p ≡ Some i → slice_get (foreign_names p) i ≡ Some name
 foreign_name name p i is =
-    unwrap_or-slice_get (foreign_names p) i [] ∙ (bytes_eq-Decides (get_or (foreign_names p) i []) name).0 (position-Some (λ (x : List ℕ). bytes_eq x name) (foreign_names p) i [] is).1
+    let found = position-Some (λ (x : List ℕ). bytes_eq x name) (foreign_names p) i [] is in
+    slice_get-get_or (foreign_names p) i [] found.0 ∙ ap Some ((bytes_eq-Decides (get_or (foreign_names p) i []) name).0 found.1)
 
 -- ---- variables behind a statement
 
@@ -251,10 +252,11 @@ module _ (p : Source) (d : ℕ) (callee callee' : Callee (List Value) Value) (me
   foreign_means : (k : ℕ) (x : List ℕ) (conf conf_len array array_len : ℕ) (outer : Places) (v : Scopes) (w : World) → Inside outer v → foreign_index x p ≡ Some k
       → Shown flat (Behind outer (placed v)) (Inside outer) (source.foreign k x conf conf_len array array_len v w) (slots.foreign (foreign_names p) k conf conf_len array array_len (flat v) (bare w))
   foreign_means k x conf conf_len array array_len outer v w i is =
-      with_shown flat _ _ (bytes_at w.memory conf conf_len) _ refl w _ _ (λ c. with_shown flat _ _ (bytes_at w.memory array array_len) _ refl w _ _ (λ a.
-      subst (λ name. Shown {X = Value} flat (Behind outer (placed v)) (Inside outer) (ask (Foreign k x c a) w (λ r w. Normal v (record w { memory = source.with_reply w.memory array r })))
-      (ask (Foreign k name c a) (bare w) (λ r w. Normal (flat v) (record w { memory = source.with_reply w.memory array r })))) (sym (foreign_name x p k is))
-      (ask_shown flat _ _ (Foreign k x c a) w _ _ (λ r w. record { same = refl; so = (i, refl) }))))
+      subst (λ o. Shown {X = Value} flat (Behind outer (placed v)) (Inside outer) (source.foreign k x conf conf_len array array_len v w)
+      (with_value o (bare w) (λ name. with_value (bytes_at w.memory conf conf_len) (bare w) (λ c. with_value (bytes_at w.memory array array_len) (bare w) (λ a.
+      ask (Foreign k name c a) (bare w) (λ r w. Normal (flat v) (record w { memory = source.with_reply w.memory array r }))))))) (sym (foreign_name x p k is))
+      (with_shown flat _ _ (bytes_at w.memory conf conf_len) _ refl w _ _ (λ c. with_shown flat _ _ (bytes_at w.memory array array_len) _ refl w _ _ (λ a.
+      ask_shown flat _ _ (Foreign k x c a) w _ _ (λ r w. record { same = refl; so = (i, refl) }))))
 
   layer_means : (y : StmtKind-F Known) (outer : Places) (v : Scopes) (w : World) → Inside outer v
       → Shown flat (Behind outer (layer y p (placed v)).1) (Inside outer) (source.act_layer p d callee (map-StmtKind StmtKind source.Does run (parts y)) v w) (run' (layer y p (placed v)).0 (flat v) (bare w))

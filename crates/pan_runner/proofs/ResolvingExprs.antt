@@ -1,5 +1,5 @@
 -- What an expression is resolved to, at each variant.
-use Rattle.std.proofs.Common.{◌≡◌, ℕ, List, [], ◌∷◌, map, refl, sym, ap, ◌∙◌}
+use Rattle.std.proofs.Common.{◌≡◌, ℕ, List, map, sym, ap, ◌∙◌}
 use Rattle.std.proofs.lemmas.Simd.{map-map}
 use Rattle.pan_base.specs.declared.operators.BinOp.{BinOp}
 use Rattle.pan_base.specs.declared.operators.ShOp.{ShOp}

@@ -222,12 +222,12 @@ module _ (names : List (List ℕ)) (p : Program) where
     act_keeps (stmt.SharedStore size a e) =
         by _ _ (does_shared_store names p size a e u w0)
         ∙ given (word a u m) _ _ (λ addr. given (word e u m) _ _ (λ n.
-          where_keeps ks m t rs k (is_shared size addr) _ _ (ask_keeps (Storing size addr (n % 2 ^ (8 * byte_count size))) u ks m t rs k)))
+        where_keeps ks m t rs k (is_shared size addr) _ _ (ask_keeps (Storing size addr (n % 2 ^ (8 * byte_count size))) u ks m t rs k)))
     act_keeps (stmt.Foreign name conf conf_len array array_len) =
         by _ _ (does_foreign names p name conf conf_len array array_len u w0)
         ∙ given name _ _ (λ i.
-          given (word conf u m) _ _ (λ c. given (word conf_len u m) _ _ (λ l.
-          given (word array u m) _ _ (λ a. given (word array_len u m) _ _ (λ n. foreign_keeps i c l a n u ks m t rs k)))))
+        given (word conf u m) _ _ (λ c. given (word conf_len u m) _ _ (λ l.
+        given (word array u m) _ _ (λ a. given (word array_len u m) _ _ (λ n. foreign_keeps i c l a n u ks m t rs k)))))
 
     do_keeps : (s : Stmt) → told (after names p ks (does names p s u w0)) ≡ goes names p (begin names s u ks m) t rs k
     unfolding begin

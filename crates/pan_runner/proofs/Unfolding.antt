@@ -49,7 +49,7 @@ module _ (names : List (List ℕ)) (p : Program) where
   does_if e first second u w =
       at_layer (stmt.If e first second) u w
       ∙ value_same (word e u w.memory) w _ _ (λ n.
-        choice_same n _ _ _ _ (scoped_same w.fuel [] _ _ (all_does names p w.fuel first) u w (omega arith)) (scoped_same w.fuel [] _ _ (all_does names p w.fuel second) u w (omega arith)))
+      choice_same n _ _ _ _ (scoped_same w.fuel [] _ _ (all_does names p w.fuel first) u w (omega arith)) (scoped_same w.fuel [] _ _ (all_does names p w.fuel second) u w (omega arith)))
 
   -- the test of a loop, and its body
   abbrev tests : Expr → Variables → World → Option ℕ
@@ -94,8 +94,8 @@ module _ (names : List (List ℕ)) (p : Program) where
       let d = w.fuel in
       at_layer (stmt.Call (record { into = t; function = f; args = args; handler = Some h })) u w
       ∙ (call_steady names d d (calls names p d) (enters names p) (calls_enter names p d) t f args
-        (Some (record { exception = h.exception; body = map (run names d (calls names p d)) h.body }))
-        (Some (record { exception = h.exception; body = map (does names p) h.body })) (refl, all_does names p d h.body)).same u w (omega arith)
+      (Some (record { exception = h.exception; body = map (run names d (calls names p d)) h.body }))
+      (Some (record { exception = h.exception; body = map (does names p) h.body })) (refl, all_does names p d h.body)).same u w (omega arith)
 
   pub does_call : (c : CallOf (List Stmt)) (u : Variables) (w : World) → does names p (roll-Stmt (stmt.Call c)) u w
       ≡ with_value c.function w (λ f. call (enters names p) f (values c.args u w.memory) w (λ a w. Normal (into c.into a u) w) (caught (handling names p c.handler) (into_nothing c.into u)))
@@ -120,6 +120,6 @@ module _ (names : List (List ℕ)) (p : Program) where
 
   pub does_foreign : (name : Option ℕ) (conf conf_len array array_len : Expr) (u : Variables) (w : World) → does names p (roll-Stmt (stmt.Foreign name conf conf_len array array_len)) u w
       ≡ with_value name w (λ i.
-        with_value (word conf u w.memory) w (λ c. with_value (word conf_len u w.memory) w (λ l.
-        with_value (word array u w.memory) w (λ a. with_value (word array_len u w.memory) w (λ m. foreign names i c l a m u w)))))
+      with_value (word conf u w.memory) w (λ c. with_value (word conf_len u w.memory) w (λ l.
+      with_value (word array u w.memory) w (λ a. with_value (word array_len u w.memory) w (λ m. foreign names i c l a m u w)))))
   does_foreign name conf conf_len array array_len u w = at_layer (stmt.Foreign name conf conf_len array array_len) u w

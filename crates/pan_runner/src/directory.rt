@@ -14,10 +14,7 @@ use std::alloc::Global;
 use std::marker::Model;
 
 /// The names of the functions with their numbers.
-fn function_numbers<'p>(
-    alloc: Global,
-    functions: &'p [Function],
-) -> Result<Numbers<'p>, NoMemory>
+fn function_numbers<'p>(alloc: Global, functions: &'p [Function]) -> Result<Numbers<'p>, NoMemory>
     ensures { IfOk result (λ n. n ≡ numbered 0 (map (λ f. f.name) functions.now)) }
 {
     let mut numbers = Numbers::new(alloc);

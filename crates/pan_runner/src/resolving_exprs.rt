@@ -18,11 +18,7 @@ const BYTES_IN_WORD: u64 = 8;
 /// The expression, with each variable as its place.
 #[cycle(resolve_expr)]
 #[tactic(auto, using(crate::proofs::ResolvingExprs::resolved_expr_rules))]
-pub fn resolve_expr(
-    alloc: Global,
-    expr: &SourceExpr,
-    places: &Places<'_>,
-) -> Result<Expr, NoMemory>
+pub fn resolve_expr(alloc: Global, expr: &SourceExpr, places: &Places<'_>) -> Result<Expr, NoMemory>
     ensures { IfOk result (λ e. e ≡ resolved_expr expr.now places.now) }
 {
     match &expr.kind {
@@ -41,10 +37,7 @@ pub fn resolve_expr(
         }
         ExprKind::Load(shape, address) => {
             let shape = copy_shape(alloc, shape)?;
-            Ok(Expr::Load(
-                shape,
-                resolve_boxed(alloc, address.get(), places)?,
-            ))
+            Ok(Expr::Load(shape, resolve_boxed(alloc, address.get(), places)?))
         }
         ExprKind::LoadByte(address) => Ok(Expr::LoadByte(resolve_boxed(
             alloc,
@@ -54,17 +47,11 @@ pub fn resolve_expr(
         ExprKind::Neg(of) => Ok(Expr::Neg(resolve_boxed(alloc, of.get(), places)?)),
         ExprKind::Chain(first, rest) => {
             let first = resolve_boxed(alloc, first.get(), places)?;
-            Ok(Expr::Chain(
-                first,
-                resolve_terms(alloc, rest.as_slice(), places)?,
-            ))
+            Ok(Expr::Chain(first, resolve_terms(alloc, rest.as_slice(), places)?))
         }
         ExprKind::Shift(of, amounts) => {
             let of = resolve_boxed(alloc, of.get(), places)?;
-            Ok(Expr::Shift(
-                of,
-                List::from_slice(alloc, amounts.as_slice())?,
-            ))
+            Ok(Expr::Shift(of, List::from_slice(alloc, amounts.as_slice())?))
         }
         ExprKind::Compare(comparison, left, right) => {
             let left = resolve_boxed(alloc, left.get(), places)?;

@@ -1,4 +1,3 @@
-use Rattle.std.proofs.Common.{◌≡◌, ◌++◌, [], ◌∷◌}
 use Rattle.pan_tree.specs.Check.{foreign_names}
 use Rattle.pan_runner.specs.Numbering.{numbered}
 use Rattle.pan_runner.proofs.NumberLemmas.{numbered_next}

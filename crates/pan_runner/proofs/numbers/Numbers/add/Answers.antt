@@ -1,4 +1,4 @@
-use Rattle.std.proofs.Common.{◌≡◌, List, ℕ, true, false, sym, ap, ◌∙◌}
+use Rattle.std.proofs.Common.{◌≡◌, true, false, sym, ap, ◌∙◌}
 use Rattle.std.specs.Option.{is_some}
 use Rattle.pan_tree.specs.Scopes.{in_scope}
 use Rattle.pan_runner.specs.Numbering.{named}

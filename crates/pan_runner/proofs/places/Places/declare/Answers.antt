@@ -1,4 +1,4 @@
-use Rattle.std.proofs.Common.{◌≡◌, ℕ, ◌+◌, ◌-◌, length, arith, vec_len, reverse, sym, ap, ◌∙◌}
+use Rattle.std.proofs.Common.{◌≡◌, ◌+◌, ◌-◌, length, arith, vec_len, reverse, sym, ap, ◌∙◌}
 use Rattle.pan_runner.specs.Resolving.{count, with_variable}
 use Rattle.pan_runner.proofs.PlaceLemmas.{variable_last, one_more, same_last}
 use Rattle.pan_runner.proofs.places.Places.declare.Goals as goal
