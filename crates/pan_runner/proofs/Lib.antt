@@ -6,3 +6,4 @@ pub mod ResolvedExprs
 pub mod ResolvedPrograms
 pub mod ResolvedStmts
 pub mod ResolvingExprs
+pub mod ResolvingStmts
