@@ -114,3 +114,29 @@ kind_keeps k p v =
 pub order_keeps : (ss : List (Spanned StmtKind)) (p : Source) (v : Places) → drop 1 (resolved_stmts ss p v).1 ≡ drop 1 v
 order_keeps [] p v = refl
 order_keeps (s ∷ ss) p v = order_keeps ss p (resolved_kind s.kind p v).1 ∙ kind_keeps s.kind p v
+
+-- what a block leaves when it is closed
+pub kept_behind : (ss : List (Spanned StmtKind)) (p : Source) (opened after closed v : Places) → drop 1 opened ≡ v → after ≡ (resolved_stmts ss p opened).1 → closed ≡ drop 1 after → closed ≡ v
+kept_behind ss p opened after closed v is went left = left ∙ ap (drop 1) went ∙ order_keeps ss p opened ∙ is
+
+pub variable_keeps : (x : List ℕ) (v : Places) → drop 1 (with_variable x v) ≡ drop 1 v
+variable_keeps x v = declare_keeps x _ v
+
+pub ruleset resolved_stmt_rules = (
+  resolved_skip,
+  resolved_decl,
+  resolved_assign,
+  resolved_store_words,
+  resolved_store_byte,
+  resolved_if,
+  resolved_while,
+  resolved_break,
+  resolved_continue,
+  resolved_calls,
+  resolved_return,
+  resolved_tail_call,
+  resolved_raise,
+  resolved_shared_load,
+  resolved_shared_store,
+  resolved_foreign,
+)

@@ -5,6 +5,8 @@ mod directory;
 mod numbers;
 mod places;
 mod resolved;
+mod resolving;
 mod resolving_exprs;
+mod resolving_stmts;
 mod shared;
 mod value;
