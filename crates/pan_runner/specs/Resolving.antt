@@ -15,6 +15,7 @@ use Rattle.pan_tree.specs.declared.syntax.Target.{Target as SourceTarget}
 use Rattle.pan_tree.specs.declared.syntax.Target.TheVariants as source_target
 use Rattle.pan_tree.specs.declared.syntax.BlockOf.{BlockOf}
 use Rattle.pan_tree.specs.declared.syntax.HandlerOf.{HandlerOf as SourceHandler}
+use Rattle.pan_tree.specs.declared.syntax.CallOf.{CallOf as SourceCall}
 use Rattle.pan_tree.specs.declared.program.Param.{Param}
 use Rattle.pan_tree.specs.declared.program.Function.{Function as SourceFunction}
 use Rattle.pan_tree.specs.declared.program.Program.{Program as Source}
@@ -24,6 +25,7 @@ use Rattle.pan_runner.specs.declared.resolved.Stmt.{Stmt}
 use Rattle.pan_runner.specs.declared.resolved.Stmt.TheVariants as stmt
 use Rattle.pan_runner.specs.declared.resolved.Target.{Target}
 use Rattle.pan_runner.specs.declared.resolved.Target.TheVariants as target
+use Rattle.pan_runner.specs.declared.resolved.CallOf.{CallOf}
 use Rattle.pan_runner.specs.declared.resolved.HandlerOf.{HandlerOf}
 use Rattle.pan_runner.specs.declared.resolved.Function.{Function}
 use Rattle.pan_runner.specs.declared.resolved.Program.{Program}
@@ -97,6 +99,14 @@ abbrev pub resolved_handler : Option (SourceHandler (Spanned Resolving)) → Sou
 resolved_handler None p v = None
 resolved_handler (Some h) p v = Some (record { exception = exception_index h.exception p; body = block ((h.name, count v) ∷ []) h.body p v })
 
+abbrev pub resolved_call : SourceCall (Spanned Resolving) → Source → Places → CallOf (List Stmt)
+resolved_call c p v = record {
+  into = resolved_target c.into (result_of (function_of c.function p)) v;
+  function = function_index c.function p;
+  args = resolved_exprs c.args v;
+  handler = resolved_handler c.handler p (after_target c.into v);
+}
+
 abbrev pub resolved_layer : StmtKind-F Resolving → Resolving
 resolved_layer source_stmt.Skip p v = (stmt.Skip, v)
 resolved_layer (source_stmt.Decl x e) p v = (stmt.Declare (resolved_expr e v), with_variable x v)
@@ -107,15 +117,7 @@ resolved_layer (source_stmt.If e first second) p v = (stmt.If (resolved_expr e v
 resolved_layer (source_stmt.While e body) p v = (stmt.While (resolved_expr e v) (block [] body p v), v)
 resolved_layer source_stmt.Break p v = (stmt.Break, v)
 resolved_layer source_stmt.Continue p v = (stmt.Continue, v)
-resolved_layer (source_stmt.Call c) p v = (
-  stmt.Call (record {
-    into = resolved_target c.into (result_of (function_of c.function p)) v;
-    function = function_index c.function p;
-    args = resolved_exprs c.args v;
-    handler = resolved_handler c.handler p (after_target c.into v);
-  }),
-  after_target c.into v,
-)
+resolved_layer (source_stmt.Call c) p v = (stmt.Call (resolved_call c p v), after_target c.into v)
 resolved_layer (source_stmt.Return e) p v = (stmt.Return (resolved_expr e v), v)
 resolved_layer (source_stmt.TailCall name args) p v = (stmt.TailCall (function_index name p) (resolved_exprs args v), v)
 resolved_layer (source_stmt.Raise name e) p v = (stmt.Raise (exception_index name p) (resolved_expr e v), v)
@@ -131,6 +133,17 @@ resolved_kind = fold-StmtKind Resolving resolved_layer
 
 abbrev pub resolving : Spanned StmtKind → Spanned Resolving
 resolving s = record { kind = resolved_kind s.kind; span = s.span }
+
+-- what the parts of a statement are resolved to
+abbrev pub block_resolving : BlockOf (Spanned StmtKind) → BlockOf (Spanned Resolving)
+block_resolving b = record { stmts = map resolving b.stmts }
+
+abbrev pub handler_resolving : Option (SourceHandler (Spanned StmtKind)) → Option (SourceHandler (Spanned Resolving))
+handler_resolving None = None
+handler_resolving (Some h) = Some (record { exception = h.exception; name = h.name; body = block_resolving h.body })
+
+abbrev pub call_resolving : SourceCall (Spanned StmtKind) → SourceCall (Spanned Resolving)
+call_resolving c = record { into = c.into; function = c.function; args = c.args; handler = handler_resolving c.handler }
 
 -- statements one after another
 abbrev pub resolved_stmts : List (Spanned StmtKind) → Source → Places → List Stmt × Places
