@@ -1,1 +1,3 @@
+pub mod Bound
 pub mod More
+pub mod Worlds

@@ -7,7 +7,7 @@ use Rattle.pan_base.specs.Events.{byte_count}
 use Rattle.pan_control.specs.World.{World}
 use Rattle.pan_control.specs.Memory.{is_shared, bytes_at, with_byte, with_words}
 use Rattle.pan_control.specs.Control.{Outcome, Normal, Raised, Callee, in_turn, with_value, where_true, if_not_zero, ask, left}
-use Rattle.pan_runner.proofs.Worlds.{Kept, In, Even, AllEven, EvenCallee, memory_in, value_in, where_in, choice_in, ask_in, turns_even, in_turn_even, call_in, tail_in, left_in, on_in}
+use Rattle.pan_control.proofs.Worlds.{Kept, In, Even, AllEven, EvenCallee, memory_in, value_in, where_in, choice_in, ask_in, turns_even, in_turn_even, call_in, tail_in, left_in, on_in}
 use Rattle.pan_tree.specs.Value.{Value, Word, words_in}
 use Rattle.pan_tree.specs.Meaning.{number, with_reply}
 use Rattle.pan_runner.specs.Slots.{Variables, Does, scoped, into, into_nothing, assigned, caught, foreign, act_layer, run, calls, value, word, values}

@@ -4,7 +4,7 @@ use Rattle.std.specs.Prelude.{nat_eq, slice_get}
 use Rattle.pan_base.specs.Events.{Replied, Event, Behaviour, Asked, before}
 use Rattle.pan_control.specs.World.{World}
 use Rattle.pan_control.specs.Control.{Outcome, Normal, Broken, Continued, Returned, Raised, Over, left, with_value}
-use Rattle.pan_runner.proofs.Worlds.{Kept, In, then_in, body_in, in_turn_even, after_call_in, left_in, on_in, value_in, where_in}
+use Rattle.pan_control.proofs.Worlds.{Kept, In, then_in, body_in, in_turn_even, after_call_in, left_in, on_in, value_in, where_in}
 use Rattle.pan_tree.specs.Value.{Value}
 use Rattle.pan_runner.specs.Slots.{Variables, into_nothing, calls, behaviour}
 use Rattle.pan_runner.specs.Unbounded.{enters, handling}

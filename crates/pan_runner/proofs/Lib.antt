@@ -1,4 +1,3 @@
-pub mod Bound
 pub mod EvenLayers
 pub mod FillLemmas
 pub mod GivingLayers
@@ -23,4 +22,3 @@ pub mod Steps
 pub mod StmtLayers
 pub mod ToldLayers
 pub mod Unfolding
-pub mod Worlds

@@ -4,7 +4,7 @@ use Rattle.std.specs.Prelude.{nat_eq, if◌then◌else◌, slice_get, ◌*◌, �
 use Rattle.std.specs.Option.{option_map_or}
 use Rattle.pan_control.specs.World.{World}
 use Rattle.pan_control.specs.Control.{Outcome, Normal, Raised, Callee, in_turn, where_true, left, on_variables}
-use Rattle.pan_runner.proofs.Bound.{Lower, Steady, SteadyCallee, AllSteady, stays, value_lower, where_lower, choice_lower, ask_lower, value_same, where_same, choice_same, turns_steady, in_turn_steady, call_same, call_lower, tail_same, tail_lower, left_fuel, on_fuel}
+use Rattle.pan_control.proofs.Bound.{Lower, Steady, SteadyCallee, AllSteady, stays, value_lower, where_lower, choice_lower, ask_lower, value_same, where_same, choice_same, turns_steady, in_turn_steady, call_same, call_lower, tail_same, tail_lower, left_fuel, on_fuel}
 use Rattle.pan_control.specs.Memory.{is_shared, bytes_at, with_byte, with_words}
 use Rattle.pan_base.specs.Events as events
 use Rattle.pan_base.specs.Events.{byte_count}

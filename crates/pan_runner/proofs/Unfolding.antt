@@ -7,7 +7,7 @@ use Rattle.pan_base.specs.Events.{byte_count}
 use Rattle.pan_control.specs.World.{World}
 use Rattle.pan_control.specs.Memory.{is_shared, with_byte, with_words}
 use Rattle.pan_control.specs.Control.{Normal, Broken, Continued, Returned, Raised, with_value, where_true, if_not_zero, ask, spend, after_body, turn, turns, call, tail_call}
-use Rattle.pan_runner.proofs.Bound.{Steady, value_same, choice_same, turn_same, turns_steady}
+use Rattle.pan_control.proofs.Bound.{Steady, value_same, choice_same, turn_same, turns_steady}
 use Rattle.pan_tree.specs.Value.{Word, words_in}
 use Rattle.pan_tree.specs.Meaning.{number}
 use Rattle.pan_runner.specs.Slots.{Variables, Does, scoped, into, into_nothing, assigned, caught, foreign, act_layer, run, calls, value, word, values}
