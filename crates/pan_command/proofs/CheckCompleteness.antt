@@ -7,8 +7,10 @@ use Rattle.pan_tree.specs.Check.{program_weight}
 use Rattle.pan_tree.specs.declared.program.Program.{Program}
 use Rattle.pan_command.specs.declared.status.Status.{Status}
 use Rattle.pan_command.specs.declared.status.Status.TheVariants as status
-use Rattle.pan_command.specs.declared.error.BuildError.{BuildError}
-use Rattle.pan_command.specs.Served.{IsChecked, Unchecked, source_line}
+use Rattle.front_end.specs.Sources.{IsChecked, Unchecked}
+use Rattle.front_end.specs.declared.error.SourceError.{SourceError}
+use Rattle.pan_command.specs.declared.error.BuildError.TheVariants.{Source}
+use Rattle.pan_command.specs.Served.{source_line}
 use Rattle.pan_command.specs.Status.{code}
 use Rattle.pan_command.specs.Words.{IsLawful}
 use Rattle.pan_command.specs.Outside.{Outside, NoFault}
@@ -48,13 +50,13 @@ module _ (before after : Outside) (all : Files) (source : List ℕ) (told : (bef
     passed_ends program checked status.NoMemory h = inr refl
     passed_ends program checked (status.Ran end) h = absurd h
 
-    unpassed_ends : (e : BuildError) → Unchecked bytes e → (s : Status) → CheckCases source before after s → ((code s ≡ 4) × Took before.out after.out (source_line e)) ⊎ (code s ≡ 8)
+    unpassed_ends : (e : SourceError) → Unchecked bytes e → (s : Status) → CheckCases source before after s → ((code s ≡ 4) × Took before.out after.out (source_line (Source e))) ⊎ (code s ≡ 8)
     unpassed_ends e unchecked status.Done h = absurd (h.accepted e (subst (λ b. Unchecked b e) (sym (same_bytes _ all source bytes h.bytes told there h.held)) unchecked))
     unpassed_ends e unchecked status.Usage h = absurd h
     unpassed_ends e unchecked status.Unread h = absurd (not_unread _ h)
     unpassed_ends e unchecked status.Refused h =
         let same = h.only e (subst (λ b. Unchecked b e) (sym (same_bytes _ all source bytes h.bytes told there h.held)) unchecked) in
-        inl (refl, subst (λ r. Took before.out after.out (source_line r)) (sym same) h.line)
+        inl (refl, subst (λ r. Took before.out after.out (source_line (Source r))) (sym same) h.line)
     unpassed_ends e unchecked status.NoImage h = absurd h
     unpassed_ends e unchecked status.NoScript h = absurd h
     unpassed_ends e unchecked status.Unwritten h = absurd h
@@ -66,8 +68,8 @@ module _ (before after : Outside) (all : Files) (source : List ℕ) (told : (bef
         → ((code s ≡ 0) × Took before.out after.out (weight_line (program_weight program))) ⊎ (code s ≡ 8)
     passes words s program lawful checked h = passed_ends program checked s (checks_so before after source words s lawful h).1
 
-    pub refuses : (words : List (List ℕ)) (s : Status) (e : BuildError) → IsLawful (codes "check") words source → Unchecked bytes e → Ends words before after s
-        → ((code s ≡ 4) × Took before.out after.out (source_line e)) ⊎ (code s ≡ 8)
+    pub refuses : (words : List (List ℕ)) (s : Status) (e : SourceError) → IsLawful (codes "check") words source → Unchecked bytes e → Ends words before after s
+        → ((code s ≡ 4) × Took before.out after.out (source_line (Source e))) ⊎ (code s ≡ 8)
     refuses words s e lawful unchecked h = unpassed_ends e unchecked s (checks_so before after source words s lawful h).1
 
   missing_ends : all source ≡ None → (s : Status) → CheckCases source before after s → (code s ≡ 3) ⊎ (code s ≡ 8)

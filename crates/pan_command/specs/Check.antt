@@ -8,8 +8,10 @@ use Rattle.pan_tree.specs.Check.{program_weight}
 use Rattle.pan_tree.specs.declared.program.Program.{Program}
 use Rattle.pan_command.specs.declared.status.Status.{Status}
 use Rattle.pan_command.specs.declared.status.Status.TheVariants as status
-use Rattle.pan_command.specs.declared.error.BuildError.{BuildError}
-use Rattle.pan_command.specs.Served.{IsChecked, Unchecked, source_line}
+use Rattle.front_end.specs.Sources.{IsChecked, Unchecked}
+use Rattle.front_end.specs.declared.error.SourceError.{SourceError}
+use Rattle.pan_command.specs.declared.error.BuildError.TheVariants.{Source}
+use Rattle.pan_command.specs.Served.{source_line}
 use Rattle.pan_command.specs.Outside.{Outside, Holds}
 use Rattle.pan_command.specs.Run.{FileUnread}
 
@@ -26,18 +28,18 @@ pub record Passed (Prints : List ℕ → Type 0) (before : Outside) (source : Li
   pub program : Program
   pub checked : IsChecked bytes program
   pub only : (other : Program) → IsChecked bytes other → other ≡ program
-  pub accepted : (e : BuildError) → ¬ Unchecked bytes e
+  pub accepted : (e : SourceError) → ¬ Unchecked bytes e
   pub line : Prints (weight_line (program_weight program))
 
 -- the source's bytes are a source of no such program, for this reason and no other
 pub record Unpassed (Prints : List ℕ → Type 0) (before : Outside) (source : List ℕ) : Type 0 where
   pub bytes : List ℕ
   pub held : Holds (before.files).files source bytes
-  pub reason : BuildError
+  pub reason : SourceError
   pub refused : Unchecked bytes reason
-  pub only : (e : BuildError) → Unchecked bytes e → e ≡ reason
+  pub only : (e : SourceError) → Unchecked bytes e → e ≡ reason
   pub unchecked : (program : Program) → ¬ IsChecked bytes program
-  pub line : Prints (source_line reason)
+  pub line : Prints (source_line (Source reason))
 
 -- a line could not be put, and what was put is a prefix of the line that was to be put
 pub record CheckUnput (before after : Outside) (source : List ℕ) : Type 0 where

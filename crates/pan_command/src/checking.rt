@@ -3,11 +3,11 @@
 ghost use Rattle.pan_command.specs.Outside.{outside};
 ghost use Rattle.pan_command.specs.Check.{CheckEnds};
 
-use crate::building::read_program;
 use crate::error::BuildError;
 use crate::lines::{put_source_line, put_weight_line};
 use crate::loading::read_file;
 use crate::status::Status;
+use front_end::{SourceError, read_program};
 use pan_base::{Sink, SinkFault, Workspace};
 use std::alloc::Global;
 
@@ -29,8 +29,8 @@ pub fn check<W: Workspace, O: Sink>(
             Ok(()) => Status::Done,
             Err(SinkFault) => Status::Unput,
         },
-        Err(BuildError::NoMemory) => Status::NoMemory,
-        Err(error) => match put_source_line(out, error) {
+        Err(SourceError::NoMemory) => Status::NoMemory,
+        Err(error) => match put_source_line(out, BuildError::Source(error)) {
             Ok(()) => Status::Refused,
             Err(SinkFault) => Status::Unput,
         },

@@ -7,7 +7,9 @@ ghost use Rattle.pan_base.specs.Files.{Files, NoneChanged};
 ghost use Rattle.pan_base.specs.Sinks.{Took};
 ghost use Rattle.pan_tree.specs.declared.program.Program.{Program};
 ghost use Rattle.pan_tree.specs.Check.{program_weight};
-ghost use Rattle.pan_command.specs.Served.{IsChecked, IsServed, Unchecked, Refuses, source_line};
+ghost use Rattle.front_end.specs.Sources.{IsChecked, Unchecked};
+ghost use Rattle.front_end.specs.declared.error.SourceError.{SourceError as IsSourceError};
+ghost use Rattle.pan_command.specs.Served.{IsServed, Refuses, source_line};
 ghost use Rattle.pan_command.specs.declared.error.BuildError.{BuildError as IsBuildError};
 ghost use Rattle.pan_command.specs.Status.{code, end_code, IsCompileCode};
 ghost use Rattle.pan_command.specs.Words.{is_plain, IsLawful, AreLawful, AreUnlawful};
@@ -198,10 +200,10 @@ pub fn panc<W: Workspace, O: Sink>(alloc: Global, words: &[Text], files: &mut W,
         → (W.state files.old).files ≡ Some all → all source ≡ Some bytes → IsChecked bytes program
         → NoFault (outside (W.state files.old) (O.state out.old)) (outside (W.state files.new) (O.state out.new))
         → ((result ≡ 0) × Took (O.state out.old) (O.state out.new) (weight_line (program_weight program))) ⊎ (result ≡ 8) }
-    ensures check_refuses { (source bytes : List ℕ) (e : IsBuildError) (all : Files) → IsLawful (codes "check") words.now source
+    ensures check_refuses { (source bytes : List ℕ) (e : IsSourceError) (all : Files) → IsLawful (codes "check") words.now source
         → (W.state files.old).files ≡ Some all → all source ≡ Some bytes → Unchecked bytes e
         → NoFault (outside (W.state files.old) (O.state out.old)) (outside (W.state files.new) (O.state out.new))
-        → ((result ≡ 4) × Took (O.state out.old) (O.state out.new) (source_line e)) ⊎ (result ≡ 8) }
+        → ((result ≡ 4) × Took (O.state out.old) (O.state out.new) (source_line (BuildError.Source e))) ⊎ (result ≡ 8) }
     ensures check_missing { (source : List ℕ) (all : Files) → IsLawful (codes "check") words.now source
         → (W.state files.old).files ≡ Some all → all source ≡ None
         → NoFault (outside (W.state files.old) (O.state out.old)) (outside (W.state files.new) (O.state out.new)) → (result ≡ 3) ⊎ (result ≡ 8) }

@@ -1,19 +1,13 @@
 //! Why a source has no image.
 
+use front_end::SourceError;
 use pan_base::NoMemory;
-use pan_lexer::LexError;
-use pan_parser::ParseError;
-use pan_shapes::CheckError;
 
 /// Why a source has no image.
 #[derive(Clone, Copy, Debug, PartialEq, Eq)]
 pub enum BuildError {
-    /// It has no tokens.
-    Lex(LexError),
-    /// Its tokens spell no program.
-    Parse(ParseError),
-    /// Its program breaks a rule.
-    Check(CheckError),
+    /// It has no program that keeps every rule.
+    Source(SourceError),
     /// Its program isn't straight-line.
     Unsupported,
     /// There is no memory.
@@ -31,44 +25,16 @@ impl From<NoMemory> for BuildError {
     }
 }
 
-impl From<LexError> for BuildError {
+impl From<SourceError> for BuildError {
     ghost use Rattle.std.specs.Prelude.{◌≡◌};
-    ghost use Rattle.pan_command.specs.Inner.{of_lex};
+    ghost use Rattle.pan_command.specs.Inner.{of_source};
 
-    ghost from_gives = { λ inner e. e ≡ of_lex inner };
+    ghost from_gives = { λ inner e. e ≡ of_source inner };
 
-    fn from(error: LexError) -> BuildError {
+    fn from(error: SourceError) -> BuildError {
         match error {
-            LexError::NoMemory => BuildError::NoMemory,
-            _ => BuildError::Lex(error),
-        }
-    }
-}
-
-impl From<ParseError> for BuildError {
-    ghost use Rattle.std.specs.Prelude.{◌≡◌};
-    ghost use Rattle.pan_command.specs.Inner.{of_parse};
-
-    ghost from_gives = { λ inner e. e ≡ of_parse inner };
-
-    fn from(error: ParseError) -> BuildError {
-        match error {
-            ParseError::NoMemory => BuildError::NoMemory,
-            _ => BuildError::Parse(error),
-        }
-    }
-}
-
-impl From<CheckError> for BuildError {
-    ghost use Rattle.std.specs.Prelude.{◌≡◌};
-    ghost use Rattle.pan_command.specs.Inner.{of_check};
-
-    ghost from_gives = { λ inner e. e ≡ of_check inner };
-
-    fn from(error: CheckError) -> BuildError {
-        match error {
-            CheckError::NoMemory => BuildError::NoMemory,
-            _ => BuildError::Check(error),
+            SourceError::NoMemory => BuildError::NoMemory,
+            _ => BuildError::Source(error),
         }
     }
 }

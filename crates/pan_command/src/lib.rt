@@ -2,8 +2,6 @@
 #![tactic(auto)]
 
 mod building;
-#[cfg(test)]
-mod check_tests;
 mod checking;
 mod command;
 mod error;

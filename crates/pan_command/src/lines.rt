@@ -5,15 +5,12 @@ ghost use Rattle.pan_base.specs.Causes.{HasCause};
 ghost use Rattle.pan_base.specs.Sinks.{PutsAll};
 ghost use Rattle.pan_command.specs.Check.{weight_line};
 ghost use Rattle.pan_command.specs.Run.{field_text, cause_text, image_line, script_line};
-ghost use Rattle.pan_command.specs.Served.{caused, rule_text, source_line};
+ghost use Rattle.pan_command.specs.Served.{caused, source_line};
 
 use crate::error::BuildError;
 use image_file::{FieldName, ImageError};
 use itoa::Buffer;
 use pan_base::{Sink, SinkFault, put_all, put_each};
-use pan_lexer::LexError;
-use pan_parser::ParseError;
-use pan_shapes::{CheckError, Rule};
 use reply_file::Cause;
 
 /// Puts a word, a name and a line feed.
@@ -81,48 +78,14 @@ pub fn put_script_line<O: Sink>(out: &mut O, line: u64, cause: Cause) -> Result<
     )
 }
 
-fn name_of_rule(rule: Rule) -> &'static str
-    ensures { result.now ≡ rule_text rule }
-{
-    match rule {
-        Rule::TwoNames => "TwoNames",
-        Rule::NoMain => "NoMain",
-        Rule::MainShape => "MainShape",
-        Rule::UnknownName => "UnknownName",
-        Rule::UnknownFunction => "UnknownFunction",
-        Rule::UnknownException => "UnknownException",
-        Rule::WrongShape => "WrongShape",
-        Rule::WrongCount => "WrongCount",
-        Rule::NotStruct => "NotStruct",
-        Rule::NoField => "NoField",
-        Rule::NotWord => "NotWord",
-        Rule::BadShift => "BadShift",
-        Rule::LoopOutside => "LoopOutside",
-        Rule::NoReturn => "NoReturn",
-        Rule::ShapeTooWide => "ShapeTooWide",
-        Rule::TooMany => "TooMany",
-        Rule::FunctionTooHeavy => "FunctionTooHeavy",
-        Rule::ProgramTooHeavy => "ProgramTooHeavy",
-    }
-}
-
 /// The place and the name of what is wrong with a source.
 fn place_and_cause(error: BuildError) -> (u32, &'static str)
     ensures { caused result.0 result.1.now ≡ source_line error }
 {
     match error {
-        BuildError::Lex(LexError::TooLong) => (0, "TooLong"),
-        BuildError::Lex(LexError::BadByte(place)) => (place, "BadByte"),
-        BuildError::Lex(LexError::BadNumber(place)) => (place, "BadNumber"),
-        BuildError::Lex(LexError::OpenComment(place)) => (place, "OpenComment"),
-        BuildError::Parse(ParseError::Syntax(place)) => (place, "Syntax"),
-        BuildError::Parse(ParseError::TooDeep(place)) => (place, "TooDeep"),
-        BuildError::Check(CheckError::Breaks { rule, place }) => (place, name_of_rule(rule)),
+        BuildError::Source(error) => (error.place(), error.cause()),
         BuildError::Unsupported => (0, "Unsupported"),
-        BuildError::Lex(LexError::NoMemory)
-        | BuildError::Parse(ParseError::NoMemory)
-        | BuildError::Check(CheckError::NoMemory)
-        | BuildError::NoMemory => (0, "NoMemory"),
+        BuildError::NoMemory => (0, "NoMemory"),
     }
 }
 

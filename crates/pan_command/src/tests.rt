@@ -17,7 +17,7 @@ fn bytes_of(alloc: Global, files: &mut MemFiles, name: &str) -> Result<Blob, NoM
 }
 
 /// The words of a line, parted by single spaces.
-pub fn words_of(alloc: Global, line: &str) -> Result<List<Text>, NoMemory> {
+fn words_of(alloc: Global, line: &str) -> Result<List<Text>, NoMemory> {
     let mut words = List::new(alloc);
     for word in line.split_whitespace() {
         words.push(Text::from_str(alloc, word)?)?;
@@ -26,7 +26,7 @@ pub fn words_of(alloc: Global, line: &str) -> Result<List<Text>, NoMemory> {
 }
 
 /// Files with `a.pan`, and the calls that are to fail.
-pub fn files_with(
+fn files_with(
     alloc: Global,
     source: &[u8],
     failing: Option<Failing>,
@@ -73,6 +73,24 @@ fn answers(rt: HostRuntime) -> Result<(), Fail> {
         ("compile a.pan", FIRST, "usage\n", 2),
         ("compile a.pan -a.img", FIRST, "usage\n", 2),
         ("check a.pan", FIRST, "ok 23\n", 0),
+        (
+            "check a.pan",
+            "fun main() { return $; }",
+            "20 BadByte\n",
+            4,
+        ),
+        (
+            "check a.pan",
+            "fun main() { return 1 + ; }",
+            "24 Syntax\n",
+            4,
+        ),
+        (
+            "check a.pan",
+            "fun main() { return 1 + (y); }",
+            "25 UnknownName\n",
+            4,
+        ),
         ("check", FIRST, "usage\n", 2),
         ("check -a.pan", FIRST, "usage\n", 2),
         ("check a.pan a.img", FIRST, "usage\n", 2),
@@ -193,6 +211,28 @@ fn meets_faults(rt: HostRuntime) -> Result<(), Fail> {
     assert_eq!(rt; panc(alloc, words.as_slice(), &mut files, &mut out), 7);
     let image: &[u8] = &FIRST_IMAGE;
     assert_eq!(rt; bytes_of(alloc, &mut files, "a.img")?.as_slice(), image);
+    Ok(())
+}
+
+/// A read that fails, and lines of a check that can't be put, of which a prefix stays.
+#[test]
+fn check_meets_faults(rt: HostRuntime) -> Result<(), Fail> {
+    let alloc = rt.alloc();
+    for (call, room, source, line, status) in [
+        (0, 100, "fun main() { return 7; }", "read a.pan\n", 3),
+        (0, 8, "fun main() { return 7; }", "read a.pan\n", 7),
+        (9, 5, "fun main() { return 7; }", "ok 11\n", 7),
+        (9, 5, "fun main() { return y; }", "20 UnknownName\n", 7),
+    ] {
+        let words = words_of(alloc, "check a.pan")?;
+        let failing = Failing { call, keep: None };
+        let mut files = files_with(alloc, source.as_bytes(), Some(failing))?;
+        let mut out = MemSink::new(alloc, room, List::new(alloc))?;
+        let ended = panc(alloc, words.as_slice(), &mut files, &mut out);
+        assert_eq!(rt; ended, status, "{line}");
+        assert!(rt; line.as_bytes().starts_with(out.bytes()), "{line}");
+        assert_eq!(rt; out.bytes() == line.as_bytes(), status == 3, "{line}");
+    }
     Ok(())
 }
 

@@ -1,12 +1,13 @@
 use Rattle.std.proofs.Common.{◌≡◌, Err, sym, ap, ◌∙◌, inl, inr, subst}
 use Rattle.straight_form.specs.Form.{IsStraight}
 use Rattle.pan_command.specs.declared.error.BuildError.{BuildError}
-use Rattle.pan_command.proofs.Reasons.{handed, memory_so, starved_so, refused_first, is_straight, unsupported_only, accepted}
+use Rattle.front_end.proofs.Reasons.{handed}
+use Rattle.pan_command.proofs.Reasons.{memory_so, starved_so, refused_first, is_straight, unsupported_only, accepted}
 use Rattle.pan_command.proofs.building.build.Goals as goal
 
 pub returns-in_err-checked-clause-served : goal.returns-in_err-checked-clause-served
 returns-in_err-checked-clause-served c = λ program served.
-    memory_so _ _ c.from_residual.ensures.1 (starved_so _ c.in_err-checked.field-0.0 c.in_err-checked.ensures.passes c.in_err-checked.ensures.exact program served.checked)
+    memory_so _ c.in_err-checked.field-0.0 c.from_residual.ensures.1 (starved_so _ c.in_err-checked.field-0.0 c.in_err-checked.ensures.passes c.in_err-checked.ensures.exact program served.checked)
 
 pub returns-in_err-checked-clause-exact : goal.returns-in_err-checked-clause-exact
 returns-in_err-checked-clause-exact c = λ e refuses.

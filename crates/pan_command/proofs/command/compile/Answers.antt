@@ -8,7 +8,7 @@ use Rattle.pan_command.specs.declared.error.BuildError.TheVariants.{NoMemory}
 use Rattle.pan_command.specs.Outside.{outside, Holds}
 use Rattle.pan_command.specs.declared.error.BuildError.{BuildError}
 use Rattle.pan_command.proofs.Storing.{compile_ends}
-use Rattle.pan_command.proofs.Reasons.{no_error}
+use Rattle.front_end.proofs.Reasons.{no_error}
 use Rattle.pan_command.proofs.Refusals.{refused_so}
 use Rattle.pan_command.proofs.command.compile.Goals as goal
 

@@ -1,378 +1,380 @@
-//! The action `check` over files and a sink in memory.
+//! Sources with what comes of them: the weights of their programs, or where and why they are refused.
 
-use crate::panc;
-use crate::tests::{files_with, words_of};
+use crate::read_program;
 use itoa::Buffer;
-use pan_base::{Blob, Failing, List, MemSink, NoMemory};
 use std::alloc::{AllocError, Global};
 use std::process::Abort;
 use std::test::Fail;
 
-/// What `check` prints of a source, and its status.
-fn checked(alloc: Global, source: &[u8]) -> Result<(Blob, u8), NoMemory> {
-    let words = words_of(alloc, "check a.pan")?;
-    let mut files = files_with(alloc, source, None)?;
-    let mut out = MemSink::new(alloc, 100, List::new(alloc))?;
-    let status = panc(alloc, words.as_slice(), &mut files, &mut out);
-    Ok((Blob::from_slice(alloc, out.bytes())?, status))
+/// What the program weighs, or the place and the cause of the refusal.
+type Answer = Result<u64, (u32, &'static str)>;
+
+fn answer(alloc: Global, source: &[u8]) -> Answer {
+    match read_program(alloc, source) {
+        Ok(program) => Ok(program.weight()),
+        Err(error) => Err((error.place(), error.cause())),
+    }
 }
 
-/// Each source is refused with its line.
-fn refuses(rt: &impl Abort, alloc: Global, rows: &[(&str, &str)]) -> Result<(), Fail> {
-    for (source, line) in rows {
-        let (printed, status) = checked(alloc, source.as_bytes())?;
-        assert_eq!(rt; printed.as_slice(), line.as_bytes(), "{source}");
-        assert_eq!(rt; status, 4, "{source}");
+/// Each source is refused at its place, for its cause.
+fn refuses(
+    rt: &impl Abort,
+    alloc: Global,
+    rows: &[(&str, u32, &'static str)],
+) -> Result<(), Fail> {
+    for (source, place, cause) in rows {
+        let refused = Err((*place, *cause));
+        assert_eq!(rt; answer(alloc, source.as_bytes()), refused, "{source}");
     }
     Ok(())
 }
 
 /// What exceptions, functions and `main` break.
-const ITEMS: [(&str, &str); 21] = [
+const ITEMS: [(&str, u32, &str); 21] = [
     (
         "exception E 1; exception E 2; fun main() { return 0; }",
-        "15 TwoNames\n",
+        15, "TwoNames",
     ),
     (
         "fun f() { return 0; } fun f(1 a) { return a; } fun main() { return 0; }",
-        "22 TwoNames\n",
+        22, "TwoNames",
     ),
     (
         "fun main() { return 0; } fun main() { return 0; }",
-        "25 TwoNames\n",
+        25, "TwoNames",
     ),
     (
         "fun f(1 a, 1 a) { return a; } fun main() { return 0; }",
-        "0 TwoNames\n",
+        0, "TwoNames",
     ),
     (
         "fun f() { return 0; } fun g(1 a, 2 b, 1 a) { return a; } fun main() { return 0; }",
-        "22 TwoNames\n",
+        22, "TwoNames",
     ),
-    ("", "0 NoMain\n"),
-    ("exception E 1; fun f() { return 0; } ", "0 NoMain\n"),
+    ("", 0, "NoMain"),
+    ("exception E 1; fun f() { return 0; } ", 0, "NoMain"),
     (
         "fun f() { return 0; } fun main(1 a) { return a; }",
-        "22 MainShape\n",
+        22, "MainShape",
     ),
     (
         "fun f() { return 0; } fun 2 main() { return <1, 2>; }",
-        "22 MainShape\n",
+        22, "MainShape",
     ),
     (
         "fun f() { return 0; } fun {1} main() { return <1>; }",
-        "22 MainShape\n",
+        22, "MainShape",
     ),
     (
         "exception E 1; exception F 65; fun main() { return 0; }",
-        "15 ShapeTooWide\n",
+        15, "ShapeTooWide",
     ),
     (
         "exception E 1; exception F {32, {32, 1}}; fun main() { return 0; }",
-        "15 ShapeTooWide\n",
+        15, "ShapeTooWide",
     ),
     (
         "fun 65 f(1 s) { return s; } fun main() { return 0; }",
-        "0 ShapeTooWide\n",
+        0, "ShapeTooWide",
     ),
     (
         "fun f() { return 0; } fun g(33 a, 32 b) { return 0; } fun main() { return 0; }",
-        "22 ShapeTooWide\n",
+        22, "ShapeTooWide",
     ),
-    ("fun main() { }", "0 NoReturn\n"),
+    ("fun main() { }", 0, "NoReturn"),
     (
         "fun f() { return 0; } fun g() { skip; } fun main() { return 0; }",
-        "22 NoReturn\n",
+        22, "NoReturn",
     ),
-    ("fun main() { if 1 { return 0; } else { } }", "0 NoReturn\n"),
-    ("fun main() { if 1 { } else { return 0; } }", "0 NoReturn\n"),
-    ("fun main() { while 1 { return 0; } }", "0 NoReturn\n"),
-    ("fun main() { return 0; skip; }", "0 NoReturn\n"),
-    ("fun f() { return 0; } fun main() { f(); }", "22 NoReturn\n"),
+    ("fun main() { if 1 { return 0; } else { } }", 0, "NoReturn"),
+    ("fun main() { if 1 { } else { return 0; } }", 0, "NoReturn"),
+    ("fun main() { while 1 { return 0; } }", 0, "NoReturn"),
+    ("fun main() { return 0; skip; }", 0, "NoReturn"),
+    ("fun f() { return 0; } fun main() { f(); }", 22, "NoReturn"),
 ];
 
 /// What names break in bodies.
-const NAMES: [(&str, &str); 23] = [
+const NAMES: [(&str, u32, &str); 23] = [
     (
         "fun main() { var x = 1; var x = 2; return x; }",
-        "24 TwoNames\n",
+        24, "TwoNames",
     ),
     (
         "fun main() { while 1 { var x = 1; var x = <1>; } return 0; }",
-        "34 TwoNames\n",
+        34, "TwoNames",
     ),
     (
         "fun f(1 a) { var a = 1; return a; } fun main() { return 0; }",
-        "13 TwoNames\n",
+        13, "TwoNames",
     ),
     (
         "exception E 1; fun f() { return 0; } fun main() { f() handle E e { var e = 1; }; return 0; }",
-        "67 TwoNames\n",
+        67, "TwoNames",
     ),
     (
         "fun f() { return 0; } fun main() { var x = f(); var x = f(); return x; }",
-        "48 TwoNames\n",
+        48, "TwoNames",
     ),
     (
         "fun f() { return 0; } fun main() { var x = 1; var x = f(); return x; }",
-        "46 TwoNames\n",
+        46, "TwoNames",
     ),
-    ("fun main() { return y; }", "20 UnknownName\n"),
-    ("fun main() { return 1 + (y); }", "25 UnknownName\n"),
-    ("fun main() { var x = x; return x; }", "21 UnknownName\n"),
-    ("fun main() { y = 1; return 0; }", "13 UnknownName\n"),
+    ("fun main() { return y; }", 20, "UnknownName"),
+    ("fun main() { return 1 + (y); }", 25, "UnknownName"),
+    ("fun main() { var x = x; return x; }", 21, "UnknownName"),
+    ("fun main() { y = 1; return 0; }", 13, "UnknownName"),
     (
         "fun f() { return 0; } fun main() { y = f(); return 0; }",
-        "35 UnknownName\n",
+        35, "UnknownName",
     ),
-    ("fun main() { y = !ld8 0; return 0; }", "13 UnknownName\n"),
+    ("fun main() { y = !ld8 0; return 0; }", 13, "UnknownName"),
     (
         "fun main() { if 1 { var x = 1; } else { x = 2; } return 0; }",
-        "40 UnknownName\n",
+        40, "UnknownName",
     ),
     (
         "fun main() { while 0 { var x = 1; } return x; }",
-        "43 UnknownName\n",
+        43, "UnknownName",
     ),
     (
         "exception E 1; fun f() { return 0; } fun main() { f() handle E e { }; return e; }",
-        "77 UnknownName\n",
+        77, "UnknownName",
     ),
     (
         "fun f(1 a) { return a; } fun main() { return a; }",
-        "45 UnknownName\n",
+        45, "UnknownName",
     ),
-    ("fun main() { f(); return 0; }", "13 UnknownFunction\n"),
+    ("fun main() { f(); return 0; }", 13, "UnknownFunction"),
     (
         "fun main() { var x = f(); return x; }",
-        "13 UnknownFunction\n",
+        13, "UnknownFunction",
     ),
-    ("fun main() { return f(); }", "13 UnknownFunction\n"),
+    ("fun main() { return f(); }", 13, "UnknownFunction"),
     (
         "exception E 1; fun main() { E(); return 0; }",
-        "28 UnknownFunction\n",
+        28, "UnknownFunction",
     ),
-    ("fun main() { raise E 1; }", "13 UnknownException\n"),
+    ("fun main() { raise E 1; }", 13, "UnknownException"),
     (
         "fun f() { return 0; } fun main() { raise f 1; }",
-        "35 UnknownException\n",
+        35, "UnknownException",
     ),
     (
         "fun f() { return 0; } fun main() { f() handle E e { }; return 0; }",
-        "35 UnknownException\n",
+        35, "UnknownException",
     ),
 ];
 
 /// What shapes and counts break.
-const SHAPES: [(&str, &str); 25] = [
+const SHAPES: [(&str, u32, &str); 25] = [
     (
         "fun main() { var x = 1; x = <1>; return x; }",
-        "24 WrongShape\n",
+        24, "WrongShape",
     ),
     (
         "fun main() { var x = <1, 2>; x = <1, 2, 3>; return 0; }",
-        "29 WrongShape\n",
+        29, "WrongShape",
     ),
     (
         "fun f(1 a) { return a; } fun main() { f(<1>); return 0; }",
-        "38 WrongShape\n",
+        38, "WrongShape",
     ),
     (
         "fun f(1 a) { return a; } fun main() { return f(<1>); }",
-        "38 WrongShape\n",
+        38, "WrongShape",
     ),
     (
         "fun f() { return 0; } fun main() { var x = <1>; x = f(); return 0; }",
-        "48 WrongShape\n",
+        48, "WrongShape",
     ),
-    ("fun main() { return <1>; }", "13 WrongShape\n"),
+    ("fun main() { return <1>; }", 13, "WrongShape"),
     (
         "fun 2 f() { return <1>; } fun main() { return 0; }",
-        "12 WrongShape\n",
+        12, "WrongShape",
     ),
     (
         "fun 2 f() { return <1, 2>; } fun main() { return f(); }",
-        "42 WrongShape\n",
+        42, "WrongShape",
     ),
     (
         "exception E 2; fun main() { raise E 1; }",
-        "28 WrongShape\n",
+        28, "WrongShape",
     ),
     (
         "exception E 1; fun main() { raise E <1>; }",
-        "28 WrongShape\n",
+        28, "WrongShape",
     ),
     (
         "fun main() { var x = <1>; x = !ld8 0; return 0; }",
-        "26 WrongShape\n",
+        26, "WrongShape",
     ),
     (
         "fun f(1 a) { return a; } fun main() { f(); return 0; }",
-        "38 WrongCount\n",
+        38, "WrongCount",
     ),
     (
         "fun f(1 a) { return a; } fun main() { f(1, 2); return 0; }",
-        "38 WrongCount\n",
+        38, "WrongCount",
     ),
     (
         "fun f() { return 0; } fun main() { f(<1>); return 0; }",
-        "35 WrongCount\n",
+        35, "WrongCount",
     ),
     (
         "fun f(1 a) { return a; } fun main() { return f(); }",
-        "38 WrongCount\n",
+        38, "WrongCount",
     ),
     (
         "fun f(1 a) { return a; } fun main() { var x = <1>; x = f(); return 0; }",
-        "51 WrongShape\n",
+        51, "WrongShape",
     ),
     (
         "fun 2 f(1 a) { return <a, 2>; } fun main() { return f(); }",
-        "45 WrongShape\n",
+        45, "WrongShape",
     ),
-    ("fun main() { var x = 1; return x.0; }", "31 NotStruct\n"),
-    ("fun main() { return 1.0; }", "20 NotStruct\n"),
+    ("fun main() { var x = 1; return x.0; }", 31, "NotStruct"),
+    ("fun main() { return 1.0; }", 20, "NotStruct"),
     (
         "fun main() { var s = <1, 2>; return s.0.0; }",
-        "36 NotStruct\n",
+        36, "NotStruct",
     ),
-    ("fun main() { return (<1, 2>).0.1; }", "20 NotStruct\n"),
-    ("fun main() { var s = <1, 2>; return s.2; }", "36 NoField\n"),
+    ("fun main() { return (<1, 2>).0.1; }", 20, "NotStruct"),
+    ("fun main() { var s = <1, 2>; return s.2; }", 36, "NoField"),
     (
         "fun main() { var s = < <1, 2>, 3>; return s.0.2; }",
-        "42 NoField\n",
+        42, "NoField",
     ),
     (
         "fun f(2 a) { return a.2; } fun main() { return 0; }",
-        "20 NoField\n",
+        20, "NoField",
     ),
-    ("fun main() { return (<1>.1); }", "21 NoField\n"),
+    ("fun main() { return (<1>.1); }", 21, "NoField"),
 ];
 
 /// Values that must be words and aren't, and shifts that are too long.
-const WORDS: [(&str, &str); 29] = [
-    ("fun main() { return lds 1 <1>; }", "20 NotWord\n"),
-    ("fun main() { return ldb <1>; }", "20 NotWord\n"),
-    ("fun main() { return -<1>; }", "20 NotWord\n"),
-    ("fun main() { return 1 + -<1>; }", "24 NotWord\n"),
-    ("fun main() { return <1> + 1; }", "20 NotWord\n"),
-    ("fun main() { return 1 + <1>; }", "20 NotWord\n"),
-    ("fun main() { return 1 * 2 * <1>; }", "20 NotWord\n"),
-    ("fun main() { return 1 | (<1> ^ 2); }", "25 NotWord\n"),
-    ("fun main() { return <1> << 1; }", "20 NotWord\n"),
-    ("fun main() { return 1 == <1>; }", "20 NotWord\n"),
-    ("fun main() { return <1> <+ 1; }", "20 NotWord\n"),
-    ("fun main() { st <1>, 1; return 0; }", "13 NotWord\n"),
-    ("fun main() { stb <1>, 1; return 0; }", "13 NotWord\n"),
-    ("fun main() { stb 1, <1>; return 0; }", "13 NotWord\n"),
+const WORDS: [(&str, u32, &str); 29] = [
+    ("fun main() { return lds 1 <1>; }", 20, "NotWord"),
+    ("fun main() { return ldb <1>; }", 20, "NotWord"),
+    ("fun main() { return -<1>; }", 20, "NotWord"),
+    ("fun main() { return 1 + -<1>; }", 24, "NotWord"),
+    ("fun main() { return <1> + 1; }", 20, "NotWord"),
+    ("fun main() { return 1 + <1>; }", 20, "NotWord"),
+    ("fun main() { return 1 * 2 * <1>; }", 20, "NotWord"),
+    ("fun main() { return 1 | (<1> ^ 2); }", 25, "NotWord"),
+    ("fun main() { return <1> << 1; }", 20, "NotWord"),
+    ("fun main() { return 1 == <1>; }", 20, "NotWord"),
+    ("fun main() { return <1> <+ 1; }", 20, "NotWord"),
+    ("fun main() { st <1>, 1; return 0; }", 13, "NotWord"),
+    ("fun main() { stb <1>, 1; return 0; }", 13, "NotWord"),
+    ("fun main() { stb 1, <1>; return 0; }", 13, "NotWord"),
     (
         "fun main() { if <1> { } else { } return 0; }",
-        "13 NotWord\n",
+        13, "NotWord",
     ),
-    ("fun main() { while <1> { } return 0; }", "13 NotWord\n"),
+    ("fun main() { while <1> { } return 0; }", 13, "NotWord"),
     (
         "fun main() { var x = 1; x = !ld8 <1>; return 0; }",
-        "24 NotWord\n",
+        24, "NotWord",
     ),
-    ("fun main() { !st8 <1>, 1; return 0; }", "13 NotWord\n"),
-    ("fun main() { !st64 1, <1>; return 0; }", "13 NotWord\n"),
-    ("fun main() { @f(<1>, 2, 3, 4); return 0; }", "13 NotWord\n"),
-    ("fun main() { @f(1, <2>, 3, 4); return 0; }", "13 NotWord\n"),
-    ("fun main() { @f(1, 2, <3>, 4); return 0; }", "13 NotWord\n"),
-    ("fun main() { @f(1, 2, 3, <4>); return 0; }", "13 NotWord\n"),
-    ("fun main() { return 1 << 64; }", "20 BadShift\n"),
-    ("fun main() { return 1 >>> 64; }", "20 BadShift\n"),
-    ("fun main() { return 1 >> 65; }", "20 BadShift\n"),
-    ("fun main() { return 2 & 1 #>> 64; }", "24 BadShift\n"),
-    ("fun main() { return 1 << 63 << 64; }", "20 BadShift\n"),
-    ("fun main() { return <1> << 64; }", "20 NotWord\n"),
+    ("fun main() { !st8 <1>, 1; return 0; }", 13, "NotWord"),
+    ("fun main() { !st64 1, <1>; return 0; }", 13, "NotWord"),
+    ("fun main() { @f(<1>, 2, 3, 4); return 0; }", 13, "NotWord"),
+    ("fun main() { @f(1, <2>, 3, 4); return 0; }", 13, "NotWord"),
+    ("fun main() { @f(1, 2, <3>, 4); return 0; }", 13, "NotWord"),
+    ("fun main() { @f(1, 2, 3, <4>); return 0; }", 13, "NotWord"),
+    ("fun main() { return 1 << 64; }", 20, "BadShift"),
+    ("fun main() { return 1 >>> 64; }", 20, "BadShift"),
+    ("fun main() { return 1 >> 65; }", 20, "BadShift"),
+    ("fun main() { return 2 & 1 #>> 64; }", 24, "BadShift"),
+    ("fun main() { return 1 << 63 << 64; }", 20, "BadShift"),
+    ("fun main() { return <1> << 64; }", 20, "NotWord"),
 ];
 
 /// Loops, what is too wide or too long, and which of several breaks comes first.
-const PLACES: [(&str, &str); 24] = [
-    ("fun main() { break; }", "13 LoopOutside\n"),
-    ("fun main() { continue; }", "13 LoopOutside\n"),
+const PLACES: [(&str, u32, &str); 24] = [
+    ("fun main() { break; }", 13, "LoopOutside"),
+    ("fun main() { continue; }", 13, "LoopOutside"),
     (
         "fun main() { while 1 { break; } break; return 0; }",
-        "32 LoopOutside\n",
+        32, "LoopOutside",
     ),
     (
         "fun f() { return 0; } exception E 1; fun main() { if 1 { continue; } else { } return 0; }",
-        "57 LoopOutside\n",
+        57, "LoopOutside",
     ),
     (
         "fun f(64 a) { var s = <a, 1>; return 0; } fun main() { return 0; }",
-        "22 ShapeTooWide\n",
+        22, "ShapeTooWide",
     ),
     (
         "fun main() { var s = lds 65 0; return 0; }",
-        "21 ShapeTooWide\n",
+        21, "ShapeTooWide",
     ),
     (
         "fun main() { return (lds {64, 1} 0).1; }",
-        "21 ShapeTooWide\n",
+        21, "ShapeTooWide",
     ),
     (
         "fun main() { skip; @aaaaaaaaaaaaaaaaaaaaaaaaaaaaaaaaaaaaaaaaaaaaaaaaaaaaaaaaaaaaaaaaa(1, 2, 3, 4); return 0; }",
-        "19 TooMany\n",
+        19, "TooMany",
     ),
     (
         "fun main() { return y; } exception E 65;",
-        "25 ShapeTooWide\n",
+        25, "ShapeTooWide",
     ),
     (
         "fun f() { return y; } fun f() { return 0; }",
-        "22 TwoNames\n",
+        22, "TwoNames",
     ),
-    ("fun f() { return y; }", "0 NoMain\n"),
+    ("fun f() { return y; }", 0, "NoMain"),
     (
         "fun f() { return y; } fun 2 main() { return 1; }",
-        "22 MainShape\n",
+        22, "MainShape",
     ),
     (
         "fun f() { return y; } fun main() { break; }",
-        "17 UnknownName\n",
+        17, "UnknownName",
     ),
     (
         "fun main() { if y { break; } else { } }",
-        "16 UnknownName\n",
+        16, "UnknownName",
     ),
-    ("fun main() { if <1> { break; } else { } }", "13 NotWord\n"),
+    ("fun main() { if <1> { break; } else { } }", 13, "NotWord"),
     (
         "fun main() { if 1 { } else { break; } }",
-        "29 LoopOutside\n",
+        29, "LoopOutside",
     ),
-    ("fun main() { return <1> . 0 . 0 ; }", "20 NotStruct\n"),
-    ("fun main() { return y + <1>; }", "20 UnknownName\n"),
-    ("fun main() { return <1> + z; }", "26 UnknownName\n"),
-    ("fun main() { st y, z; return 0; }", "16 UnknownName\n"),
+    ("fun main() { return <1> . 0 . 0 ; }", 20, "NotStruct"),
+    ("fun main() { return y + <1>; }", 20, "UnknownName"),
+    ("fun main() { return <1> + z; }", 26, "UnknownName"),
+    ("fun main() { st y, z; return 0; }", 16, "UnknownName"),
     (
         "fun f(1 a) { return a; } fun main() { var x = f(y); return x; }",
-        "48 UnknownName\n",
+        48, "UnknownName",
     ),
-    ("fun main() { x = f(1); return 0; }", "13 UnknownName\n"),
+    ("fun main() { x = f(1); return 0; }", 13, "UnknownName"),
     (
         "fun main() { f() handle E e { break; }; return 0; }",
-        "13 UnknownFunction\n",
+        13, "UnknownFunction",
     ),
     (
         "fun f(1 a) { return a; } fun main() { f() handle E e { break; }; return 0; }",
-        "38 UnknownException\n",
+        38, "UnknownException",
     ),
 ];
 
 /// Sources that have no tokens, or whose tokens spell no program.
-const TEXTS: [(&str, &str); 7] = [
+const TEXTS: [(&str, u32, &str); 7] = [
     (
         "fun main() { return 18446744073709551616; }",
-        "20 BadNumber\n",
+        20, "BadNumber",
     ),
-    ("fun main() { return $; }", "20 BadByte\n"),
-    ("/* x", "0 OpenComment\n"),
-    ("fun main() { return 1 + ; }", "24 Syntax\n"),
-    ("fun main() { return 1 +", "23 Syntax\n"),
-    ("fun main() { return y; } + $", "27 BadByte\n"),
-    ("fun main() { return y; } +", "25 Syntax\n"),
+    ("fun main() { return $; }", 20, "BadByte"),
+    ("/* x", 0, "OpenComment"),
+    ("fun main() { return 1 + ; }", 24, "Syntax"),
+    ("fun main() { return 1 +", 23, "Syntax"),
+    ("fun main() { return y; } + $", 27, "BadByte"),
+    ("fun main() { return y; } +", 25, "Syntax"),
 ];
 
 /// Active calls of its functions cost 320, 448, 512 and 496 bytes: each 16 for each of 4 and its weight.
@@ -384,32 +386,32 @@ fun main() { var p = b(3); var q = c(p); return q; }
 ";
 
 /// Sources that keep every rule, with their weights.
-const WEIGHTS: [(&str, &str); 8] = [
-    ("fun main() { return 7; }", "ok 11\n"),
-    (CALLS, "ok 95\n"),
+const WEIGHTS: [(&str, u64); 8] = [
+    ("fun main() { return 7; }", 11),
+    (CALLS, 95),
     (
         "fun main() { var x = 1; if 1 { var x = <1>; } else { } return x; }",
-        "ok 33\n",
+        33,
     ),
     (
         "fun main() { while 1 { break; } return 1 << 63; }",
-        "ok 23\n",
+        23,
     ),
     (
         "fun 64 f(64 a) { return a; } fun main() { return 0; }",
-        "ok 212\n",
+        212,
     ),
     (
         "exception E 64; fun f() { raise E lds 64 0; } fun main() { if 1 { return 1; } else { return f(); } }",
-        "ok 98\n",
+        98,
     ),
     (
         "exception E 2; fun f() { return 0; } fun main() { f() handle E e { return e.1; }; return 0; }",
-        "ok 42\n",
+        42,
     ),
     (
         "fun main() { @aaaaaaaaaaaaaaaaaaaaaaaaaaaaaaaaaaaaaaaaaaaaaaaaaaaaaaaaaaaaaaaa(1, 2, 3, 4); return 0; }",
-        "ok 23\n",
+        23,
     ),
 ];
 
@@ -446,10 +448,8 @@ fn texts(rt: HostRuntime) -> Result<(), Fail> {
 
 #[test]
 fn weights(rt: HostRuntime) -> Result<(), Fail> {
-    for (source, line) in WEIGHTS {
-        let (printed, status) = checked(rt.alloc(), source.as_bytes())?;
-        assert_eq!(rt; printed.as_slice(), line.as_bytes(), "{source}");
-        assert_eq!(rt; status, 0, "{source}");
+    for (source, weight) in WEIGHTS {
+        assert_eq!(rt; answer(rt.alloc(), source.as_bytes()), Ok(weight), "{source}");
     }
     Ok(())
 }
@@ -470,31 +470,31 @@ fn repeated(
     Ok(source)
 }
 
+/// Limits, and one more: of a function's weight, of bytes, and of nesting.
 #[test]
 fn long_sources(rt: HostRuntime) -> Result<(), Fail> {
-    for (front, text, count, back, line) in [
+    for (front, text, count, back, want) in [
         (
             "fun main() { var x = <0, 0>;",
             " skip;",
             4_090,
             " return 0; }",
-            "ok 16384\n",
+            Ok(16_384),
         ),
         (
             "fun main() { if 0 { } else { }",
             " skip;",
             4_092,
             " return 0; }",
-            "0 FunctionTooHeavy\n",
+            Err((0, "FunctionTooHeavy")),
         ),
-        ("", " ", 1_048_576, "", "0 NoMain\n"),
-        ("", " ", 1_048_577, "", "0 TooLong\n"),
-        ("fun main() { return ", "(", 127, "", "147 Syntax\n"),
-        ("fun main() { return ", "(", 128, "", "147 TooDeep\n"),
+        ("", " ", 1_048_576, "", Err((0, "NoMain"))),
+        ("", " ", 1_048_577, "", Err((0, "TooLong"))),
+        ("fun main() { return ", "(", 127, "", Err((147, "Syntax"))),
+        ("fun main() { return ", "(", 128, "", Err((147, "TooDeep"))),
     ] {
         let source = repeated(rt.alloc(), front, text, count, back)?;
-        let (printed, _) = checked(rt.alloc(), source.as_slice())?;
-        assert_eq!(rt; printed.as_slice(), line.as_bytes(), "{count} of {text}");
+        assert_eq!(rt; answer(rt.alloc(), source.as_slice()), want, "{count} of {text}");
     }
     Ok(())
 }
@@ -512,18 +512,18 @@ fn numbered(alloc: Global, before: &str, after: &[u8], count: u16) -> Result<Vec
 
 const MAIN: &str = "fun main() { return 0; }";
 
-/// What comes first, two texts round a number, how often they come, what comes last, and the line.
-const MANY: [(&str, &str, &str, u16, &str, &str); 6] = [
-    ("", "exception e", " 1; ", 1_024, MAIN, "ok 11\n"),
-    ("", "exception e", " 1; ", 1_025, MAIN, "19456 TooMany\n"),
-    ("", "fun f", "() { return 0; } ", 4_095, MAIN, "ok 45056\n"),
+/// What comes first, two texts round a number, how often they come, what comes last, and what is answered.
+const MANY: [(&str, &str, &str, u16, &str, Answer); 6] = [
+    ("", "exception e", " 1; ", 1_024, MAIN, Ok(11)),
+    ("", "exception e", " 1; ", 1_025, MAIN, Err((19_456, "TooMany"))),
+    ("", "fun f", "() { return 0; } ", 4_095, MAIN, Ok(45_056)),
     (
         "",
         "fun f",
         "() { return 0; } ",
         4_096,
         MAIN,
-        "106496 TooMany\n",
+        Err((106_496, "TooMany")),
     ),
     (
         "fun main() { ",
@@ -531,7 +531,7 @@ const MANY: [(&str, &str, &str, u16, &str, &str); 6] = [
         "(0, 0, 0, 0); ",
         1_024,
         "return 0; }",
-        "ok 12299\n",
+        Ok(12_299),
     ),
     (
         "fun main() { ",
@@ -539,7 +539,7 @@ const MANY: [(&str, &str, &str, u16, &str, &str); 6] = [
         "(0, 0, 0, 0); ",
         1_025,
         "return 0; }",
-        "20493 TooMany\n",
+        Err((20_493, "TooMany")),
     ),
 ];
 
@@ -547,13 +547,12 @@ const MANY: [(&str, &str, &str, u16, &str, &str); 6] = [
 #[test]
 fn many_names(rt: HostRuntime) -> Result<(), Fail> {
     let alloc = rt.alloc();
-    for (front, before, after, count, back, line) in MANY {
+    for (front, before, after, count, back, want) in MANY {
         let mut source = Vec::from_slice(alloc, front.as_bytes())?;
         let names = numbered(alloc, before, after.as_bytes(), count)?;
         source.extend_from_slice(names.as_slice())?;
         source.extend_from_slice(back.as_bytes())?;
-        let (printed, _) = checked(alloc, source.as_slice())?;
-        assert_eq!(rt; printed.as_slice(), line.as_bytes(), "{count} of {before}");
+        assert_eq!(rt; answer(alloc, source.as_slice()), want, "{count} of {before}");
     }
     Ok(())
 }
@@ -572,35 +571,9 @@ fn heavy_programs(rt: HostRuntime) -> Result<(), Fail> {
     let mut heaviest = numbered(alloc, "fun f", body.as_slice(), 15)?;
     heaviest.extend_from_slice(b"fun main")?;
     heaviest.extend_from_slice(body.as_slice())?;
-    let (printed, status) = checked(alloc, heaviest.as_slice())?;
-    assert_eq!(rt; printed.as_slice(), b"ok 262144\n".as_slice());
-    assert_eq!(rt; status, 0);
+    assert_eq!(rt; answer(alloc, heaviest.as_slice()), Ok(262_144));
 
     heaviest.extend_from_slice(b"fun f() { return 0; }")?;
-    let (printed, status) = checked(alloc, heaviest.as_slice())?;
-    assert_eq!(rt; printed.as_slice(), b"0 ProgramTooHeavy\n".as_slice());
-    assert_eq!(rt; status, 4);
-    Ok(())
-}
-
-/// A read that fails, and lines that can't be put, of which a prefix stays.
-#[test]
-fn check_meets_faults(rt: HostRuntime) -> Result<(), Fail> {
-    let alloc = rt.alloc();
-    for (call, room, source, line, status) in [
-        (0, 100, "fun main() { return 7; }", "read a.pan\n", 3),
-        (0, 8, "fun main() { return 7; }", "read a.pan\n", 7),
-        (9, 5, "fun main() { return 7; }", "ok 11\n", 7),
-        (9, 5, "fun main() { return y; }", "20 UnknownName\n", 7),
-    ] {
-        let words = words_of(alloc, "check a.pan")?;
-        let failing = Failing { call, keep: None };
-        let mut files = files_with(alloc, source.as_bytes(), Some(failing))?;
-        let mut out = MemSink::new(alloc, room, List::new(alloc))?;
-        let ended = panc(alloc, words.as_slice(), &mut files, &mut out);
-        assert_eq!(rt; ended, status, "{line}");
-        assert!(rt; line.as_bytes().starts_with(out.bytes()), "{line}");
-        assert_eq!(rt; out.bytes() == line.as_bytes(), status == 3, "{line}");
-    }
+    assert_eq!(rt; answer(alloc, heaviest.as_slice()), Err((0, "ProgramTooHeavy")));
     Ok(())
 }

@@ -1,0 +1,10 @@
+//! From the bytes of a source to its program, which keeps every rule.
+#![tactic(auto)]
+
+mod error;
+mod reading;
+#[cfg(test)]
+mod tests;
+
+pub use error::SourceError;
+pub use reading::read_program;
