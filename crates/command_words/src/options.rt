@@ -14,7 +14,7 @@ const MAX_BYTES: u64 = 67_108_864;
 
 /// The number that an option's value spells, or `default` where the option isn't given.
 fn number_or(value: Option<&str>, default: u64) -> Option<u64>
-    ensures { result ≡ number_or default (option_map (λ text. text.now) value) }
+    ensures { result ≡ number_or default (option_map (λ text. text.now) value.entry) }
 {
     match value {
         Some(text) => number(text.as_bytes()),
@@ -33,7 +33,7 @@ fn checked_size(bytes: u64, unit: u64) -> Option<u64>
 
 /// The stage that an option's value names, or the last one where the option isn't given.
 fn stage_or_code(value: Option<&str>) -> Option<Stage>
-    ensures { result ≡ stage_or_code (option_map (λ text. text.now) value) }
+    ensures { result ≡ stage_or_code (option_map (λ text. text.now) value.entry) }
 {
     match value {
         Some("parse") => Some(Stage::Parse),

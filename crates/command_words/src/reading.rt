@@ -1,9 +1,10 @@
 //! From the words of the command line to the order that they give.
 
-ghost use Rattle.std.specs.Prelude.{◌≡◌, ◌⊎◌, List, ℕ, map, option_map, IfSome, IfNone, IfOk, IfErr, Err, Some};
+ghost use Rattle.std.specs.Prelude.{◌≡◌, ◌⊎◌, [], List, ℕ, map, option_map, IfSome, IfNone, IfOk, Err};
 ghost use Rattle.std.specs.Result.{IsOkAnd};
 ghost use Rattle.clap.specs.Words.{first_value, found_of};
-ghost use Rattle.command_words.specs.Words.{Task, Says, Gives, Wanted, AskFor};
+ghost use Rattle.command_words.specs.Panc.{faults, given};
+ghost use Rattle.command_words.specs.Words.{Task, action_word, first_word, second_word, Says, Gives, Wanted, AskFor};
 ghost use Rattle.command_words.specs.Told.{task_of, wanted_of};
 
 use crate::command::panc_command;
@@ -17,6 +18,11 @@ use std::convert::AsStr;
 /// The action that the word names, on the files of these names: `None` where there is no such action, or it takes another
 /// number of names.
 fn action_on<'a>(action: &str, first: &'a str, second: Option<&'a str>) -> Option<Action<'a>>
+    ensures says { IfSome result (λ action_made. (action.now ≡ action_word (task_of action_made))
+        × (first.entry.now ≡ first_word (task_of action_made))
+        × (option_map (λ name. name.now) second.entry ≡ second_word (task_of action_made))) }
+    ensures none { IfNone result ((task : Task) → action.now ≡ action_word task
+        → ¬ (option_map (λ name. name.now) second.entry ≡ second_word task)) }
 {
     match (action, second) {
         ("compile", Some(image)) => Some(Action::Compile {
@@ -59,6 +65,20 @@ fn read_order<'a>(matches: &ArgMatches<'a>) -> Option<Order<'a>>
     })
 }
 
+/// What `clap` matches, where it finds nothing wrong with the words.
+fn match_words<'a, S: AsStr>(alloc: Global, words: &'a [S]) -> Result<ArgMatches<'a>, WordsError>
+    ensures formed { IfOk result (λ _. faults (map S.text words.entry.now) ≡ []) }
+    ensures values { IfOk result (λ matches. (name : List ℕ)
+        → first_value (found_of matches) name ≡ given (map S.text words.entry.now) name) }
+    ensures refused { result ≡ Err WordsError.Usage → ¬ (faults (map S.text words.entry.now) ≡ []) }
+{
+    let command = panc_command(alloc)?;
+    match command.try_get_matches_from(words) {
+        Ok(matches) => Ok(matches),
+        Err(error) => Err(words_error(&error)),
+    }
+}
+
 /// The order that the words of the command line give, the program's own name left out.
 ///
 /// They are an action with the names of its files, `compile SRC IMG`, `check SRC`, `run IMG SCRIPT` or
@@ -77,16 +97,12 @@ fn read_order<'a>(matches: &ArgMatches<'a>) -> Option<Order<'a>>
 /// `Usage` for all other words, and `NoMemory` for want of memory.
 pub fn read_words<'a, S: AsStr>(alloc: Global, words: &'a [S]) -> Result<Order<'a>, WordsError>
     ensures asked { IfOk result (λ order. AskFor (map S.text words.entry.now) (wanted_of order)) }
-    ensures refused { IfErr result (λ e. (e ≡ WordsError.NoMemory)
-        ⊎ ((wanted : Wanted) → ¬ AskFor (map S.text words.entry.now) wanted)) }
+    ensures refused { result ≡ Err WordsError.Usage → (wanted : Wanted) → ¬ AskFor (map S.text words.entry.now) wanted }
     ensures exact { (wanted : Wanted) → AskFor (map S.text words.entry.now) wanted
         → IsOkAnd result (λ order. wanted_of order ≡ wanted) ⊎ (result ≡ Err WordsError.NoMemory) }
     ensures exact_usage { ((wanted : Wanted) → ¬ AskFor (map S.text words.entry.now) wanted)
         → (result ≡ Err WordsError.Usage) ⊎ (result ≡ Err WordsError.NoMemory) }
 {
-    let command = panc_command(alloc)?;
-    match command.try_get_matches_from(words) {
-        Ok(matches) => read_order(&matches).ok_or(WordsError::Usage),
-        Err(error) => Err(words_error(&error)),
-    }
+    let matches = match_words(alloc, words)?;
+    read_order(&matches).ok_or(WordsError::Usage)
 }
