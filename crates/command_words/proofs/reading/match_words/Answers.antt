@@ -35,14 +35,14 @@ unfolding faults
 fault x words e is has other none = none_among e (fault_of x words) has other (ap (λ (y : App). fault_of y words) is ∙ none)
 
 pub returns-in-Ok-clause-formed : goal.returns-in-Ok-clause-formed
-returns-in-Ok-clause-formed g c =
+returns-in-Ok-clause-formed c =
     no_fault _ _ c.in_ok-command.ensures (c.in-Ok.ensures.kinds (ap is_simple_and_free c.in_ok-command.ensures ∙ panc_is_free))
 
 pub returns-in-Ok-clause-values : goal.returns-in-Ok-clause-values
-returns-in-Ok-clause-values g c =
+returns-in-Ok-clause-values c =
     values _ _ (found_of c.in-Ok.matches) c.in_ok-command.ensures (c.in-Ok.ensures.matches (ap is_simple c.in_ok-command.ensures ∙ panc_is_simple)).0
 
 pub returns-in-Err-clause-refused : goal.returns-in-Err-clause-refused
-returns-in-Err-clause-refused g c = λ is none.
+returns-in-Err-clause-refused c = λ is none.
     fault _ _ c.in-Err.error c.in_ok-command.ensures (c.in-Err.ensures.kinds (ap is_simple_and_free c.in_ok-command.ensures ∙ panc_is_free))
     (c.words_error.ensures.usage (cc)) none
