@@ -1,0 +1,2 @@
+pub mod Panc
+pub mod Words
