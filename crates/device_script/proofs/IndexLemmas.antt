@@ -92,6 +92,7 @@ name_pushed {Y} m n rs r key at updates before last new free name = by (bytes_eq
         one x y passes =
             let same : name ≡ x.items = (bytes_eq-Decides name x.items).0 (sym (is_eq-slice_cmp name x.items) ∙ passes) in
             ap (λ (name : List ℕ). is_eq (slice_cmp nat_cmp name y.items)) same
+
         apart : AreApart (is_at (λ (k : Vec ℕ Y). slice_cmp nat_cmp key.items k.items)) (λ (k : Vec ℕ Y). is_eq (slice_cmp nat_cmp name k.items))
         apart k passes = other (is_eq (slice_cmp nat_cmp name k.items)) refl
           where

@@ -6,7 +6,6 @@ use Rattle.std.proofs.Math.Seq.{take-append-add}
 use borrow.Rule.Slice.PartMut.{put_mid}
 use Rattle.device_script.specs.Memory.{overwritten}
 
-
 -- after the front: all bytes, where there is room
 all_fit : (memory bytes : List ℕ) (offset start : ℕ) → start ≡ min offset (length memory) → length bytes ≤ length memory - start
     → take (length memory - start) (bytes ++ drop (offset + length bytes) memory) ≡ bytes ++ drop (start + length bytes) memory
@@ -56,20 +55,19 @@ overwritten_is memory bytes offset start count at many =
     let len : length (take start memory) ≡ start = length-take-le start memory (omega arith) in
     let split : length memory ≡ length (take start memory) + (length memory - start) = omega (arith, len) in
     sym (
-      ap (λ xs. take (length memory) xs) (append_assoc (take offset memory) bytes rest)
-      ∙ ap (λ xs. take (length memory) (xs ++ (bytes ++ rest))) (sym front)
-      ∙ ap (λ n. take n (take start memory ++ (bytes ++ rest))) split
-      ∙ take-append-add (take start memory) (bytes ++ rest) (length memory - start)
-      ∙ ap (λ back. take start memory ++ back) (after_front memory bytes offset start count at many)
+    ap (λ xs. take (length memory) xs) (append_assoc (take offset memory) bytes rest)
+    ∙ ap (λ xs. take (length memory) (xs ++ (bytes ++ rest))) (sym front)
+    ∙ ap (λ n. take n (take start memory ++ (bytes ++ rest))) split
+    ∙ take-append-add (take start memory) (bytes ++ rest) (length memory - start)
+    ∙ ap (λ back. take start memory ++ back) (after_front memory bytes offset start count at many)
     )
 
 -- as the code writes it
-pub put_mid-overwrites : (memory bytes new : List ℕ) (offset start count : ℕ) → start ≡ min offset (length memory) → count ≡ min (length bytes) (length memory - start) → new ≡ take (count - 0) bytes
+pub put_mid-overwrites : (memory bytes new : List ℕ) (offset start count : ℕ) → start ≡ min offset (length memory) → count ≡ min (length bytes) (length memory - start) → new ≡ take count bytes
     → put_mid start (start + count - start) memory new ≡ overwritten memory offset bytes
 put_mid-overwrites memory bytes new offset start count at many written =
     let len : start + count - start ≡ count = omega arith in
-    let zero : count - 0 ≡ count = omega arith in
     ap (λ k. take start memory ++ (new ++ drop k (drop start memory))) len
     ∙ ap (λ back. take start memory ++ (new ++ back)) (drop-drop count start memory)
-    ∙ ap (λ front. take start memory ++ (front ++ drop (start + count) memory)) (written ∙ ap (λ n. take n bytes) zero)
+    ∙ ap (λ front. take start memory ++ (front ++ drop (start + count) memory)) written
     ∙ overwritten_is memory bytes offset start count at many

@@ -24,6 +24,7 @@ is_some-place_where test (r ∷ rs) = by (test r) (is_some-place_where test rs)
     later : (o : Option ℕ) → is_some (next o) ≡ is_some o
     later None = refl
     later (Some i) = refl
+
     by : (t : Bool) → is_some (place_where test rs) ≡ list_any test rs → is_some (cond t (Some 0) (next (place_where test rs))) ≡ (t || list_any test rs)
     by true e = refl
     by false e = later (place_where test rs) ∙ e

@@ -1,16 +1,18 @@
 -- What words say, one after another.
-use Rattle.std.proofs.Common.{◌≡◌, ◌⊎◌, inl, inr, ℕ, List, [], ◌∷◌, ◌++◌, cond, false, Result, Ok, Err, refl, sym, ap, ◌∙◌, append_assoc}
+use Rattle.std.proofs.Common.{◌≡◌, ◌⊎◌, inl, inr, ℕ, List, [], ◌∷◌, ◌++◌, cond, false, Result, Ok, Err, refl, sym, ap, ◌∙◌, append_assoc, arith}
 use Rattle.std.proofs.lemmas.List.{append-nil}
+use Rattle.std.specs.List.{starts_with}
 use Rattle.std.specs.Option.{ok_or}
 use Rattle.std.specs.Result.{result_ok}
 use Rattle.std.specs.Str.{bytes_eq}
-use Rattle.std.specs.Prelude.{codes}
+use Rattle.std.specs.Prelude.{codes, nat_eq}
+use Rattle.std.proofs.lemmas.Bool.Decides.{nat_tests}
 use Rattle.hex.specs.Hex.{decode_of}
 use Rattle.hex.specs.declared.error.FromHexError.{FromHexError}
 use Rattle.hex.specs.declared.error.FromHexError.TheVariants as hex
 use Rattle.device_script.specs.declared.error.Cause.{Cause}
 use Rattle.device_script.specs.declared.error.Cause.TheVariants as cause
-use Rattle.device_script.specs.Saying.{number_said, numbers_said, bytes_of_digits, hex_said, ◌>>=◌}
+use Rattle.device_script.specs.Saying.{number_said, numbers_said, bytes_of_digits, hex_said, ◌>>=◌, is_comment, said}
 use Rattle.device_script.specs.Told.{Tells, hex_refusal}
 use Rattle.device_script.proofs.HexLemmas.{digits_read}
 
@@ -75,3 +77,18 @@ hex_told word hex.OddLength some (inr bad) = hex_wrong word hex.OddLength some b
 hex_told word hex.InvalidStringLength some (inl out) = absurd (cc)
 hex_told word hex.InvalidStringLength some (inr bad) = hex_wrong word hex.InvalidStringLength some bad
 hex_told word hex.OutOfMemory some out = tt
+
+-- ---- the first word
+
+comment_begins : (word : List ℕ) → starts_with nat_eq word (codes "#") ≡ is_comment word
+comment_begins [] = refl
+comment_begins (b ∷ bs) = grind (arith, nat_tests)
+
+-- it begins no comment and no rule
+pub unknown_word : (words : List (List ℕ)) (first : List ℕ) (rest : List (List ℕ)) → words ≡ first ∷ rest
+    → starts_with nat_eq first (codes "#") ≡ false → bytes_eq first (codes "memory") ≡ false → bytes_eq first (codes "register") ≡ false → bytes_eq first (codes "queue") ≡ false
+    → bytes_eq first (codes "counter") ≡ false → bytes_eq first (codes "collector") ≡ false → bytes_eq first (codes "foreign") ≡ false
+    → said words ≡ Err cause.Word
+unknown_word words first rest is none memory register queue counter collector foreign =
+    let no_comment : is_comment first ≡ false = sym (comment_begins first) ∙ none in
+    ap said is ∙ simp (no_comment, memory, register, queue, counter, collector, foreign)

@@ -97,7 +97,8 @@ impl Index {
                 self.stores.insert((bytes_in(*size), *addr), at)?;
             }
             Rule::Foreign { name, .. } => {
-                self.calls.insert(Vec::from_slice(alloc, name.as_slice())?, at)?;
+                self.calls
+                    .insert(Vec::from_slice(alloc, name.as_slice())?, at)?;
             }
         }
         Ok(())
