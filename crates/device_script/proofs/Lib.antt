@@ -1,4 +1,3 @@
-pub mod NumberLemmas
 pub mod CuttingLemmas
 pub mod HexLemmas
 pub mod PlaceLemmas

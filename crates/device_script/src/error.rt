@@ -4,7 +4,7 @@ use pan_base::NoMemory;
 use std::alloc::{AllocError, AllocFailed};
 
 /// What is wrong with a line. Of several causes the first in this order counts, but of those from `Size` to `Kind` that of
-/// the leftmost word.
+/// the leftmost word. A line of `foreign` of three words or more is `Count` only where its name and its kind are right.
 #[derive(Clone, Copy, Debug, PartialEq, Eq)]
 pub enum Cause {
     /// The first word begins no rule.

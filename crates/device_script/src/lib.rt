@@ -8,7 +8,6 @@ mod index;
 mod laws;
 mod line;
 mod memory;
-mod numbers;
 mod reading;
 mod rule_list;
 mod rules;

@@ -16,13 +16,14 @@ use std::alloc::Global;
 /// 16, 32 or 64, A an address of the window, aligned for N bits, HEX an even number of hexadecimal digits or `-`, and the
 /// others are numbers below 2^64 in decimal digits, or in hexadecimal ones after `0x`:
 ///
-/// - `memory O HEX`: local memory has these bytes from offset O on;
+/// - `memory O HEX`: local memory has these bytes, at least one, from offset O on, and they end at 67,108,864 at most;
 /// - `register N A V`: loads give the value that was stored last, at first V;
 /// - `queue N A V*`: loads give the values in order, and then nothing;
 /// - `counter N A V D`: the load after k others gives V + k · D, modulo 2^N;
-/// - `collector N A K`: so many stores are done;
+/// - `collector N A K`: so many stores are done, and later ones are answered `Stop`;
 /// - `foreign NAME bytes HEX`, `foreign NAME conf`, `foreign NAME add D`: calls of the name replace the first bytes of their
-///   array by these or by their configuration, or add D to each byte modulo 256.
+///   array by these, if they aren't more than the array (else `Stop`), or by as much of their configuration as fits, or add D
+///   to each byte modulo 256. NAME is spelled as a name of a source, with 64 bytes at most, and isn't `base` or `biw`.
 ///
 /// No two rules answer one request, and a request that none answers is answered `Stop`.
 ///

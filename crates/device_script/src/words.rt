@@ -8,8 +8,8 @@ ghost use Rattle.device_script.specs.Saying as saying;
 ghost use Rattle.device_script.specs.Told.{Tells, hex_refusal};
 
 use crate::error::{Cause, LineError};
-use crate::numbers::number;
 use hex::FromHexError;
+use numerals::number;
 use pan_base::{Blob, Size};
 use std::alloc::Global;
 

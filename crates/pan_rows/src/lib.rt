@@ -1,0 +1,5 @@
+//! Worked rows, as tests of what sources do.
+#![tactic(auto)]
+
+#[cfg(test)]
+mod sources;
