@@ -1,8 +1,8 @@
 -- A runner advances as an asker.
-use Rattle.std.proofs.Common.{◌≡◌, ℕ, suc, ◌+◌, ◌<◌, ◌≤◌, List, [], ◌∷◌, length, Option, Some, None, Bool, true, false, refl, sym, ap, ◌∙◌, subst, arith, inl, inr}
+use Rattle.std.proofs.Common.{◌≡◌, ℕ, suc, ◌+◌, ◌<◌, ◌≤◌, List, [], ◌∷◌, length, Some, None, Bool, true, false, refl, sym, ap, ◌∙◌, subst, arith, inl, inr}
 use Rattle.std.specs.Prelude.{◌⊎◌, IsSome}
 use Rattle.std.proofs.lemmas.Bool.{false≢true}
-use Rattle.pan_base.specs.Events.{Asked, Replied, Ending, Exit, Uncaught, Fails, Stopped, Asks, Spent, Fits, Behaviour, only, before, fits, end_of}
+use Rattle.pan_base.specs.Events.{Asked, Replied, Ending, Stopped, Asks, Spent, only, before, fits, end_of}
 use Rattle.pan_base.specs.declared.events.End.TheVariants as told_end
 use Rattle.pan_port.specs.declared.asker.Pause.{Pause}
 use Rattle.pan_port.specs.declared.asker.Pause.TheVariants as pause
@@ -13,7 +13,6 @@ use Rattle.pan_runner.specs.declared.phase.Ending.{Ending as OwnEnding}
 use Rattle.pan_runner.specs.declared.phase.Ending.TheVariants as ending
 use Rattle.pan_runner.specs.declared.phase.Phase.{Phase}
 use Rattle.pan_runner.specs.declared.phase.Phase.TheVariants as phase
-use Rattle.pan_runner.specs.declared.questions.Question.{Question}
 use Rattle.pan_runner.specs.declared.runner.Runner.{Runner}
 use Rattle.pan_runner.specs.Machine.{Frame, Leave, Next, Pending, Config, Runs, Spends, Waits, Over, request_of, variables_after, memory_after, where_fits}
 use Rattle.pan_runner.specs.Going.{going, goes, run_of}

@@ -106,9 +106,9 @@ turned old mid new shared block at e body same place k pushed k' opened =
     let u : variables_of mid ≡ variables_of old = ap all_told k.variables in
     let v : variables_of new ≡ variables_of mid = ap all_told k'.variables in
     let ks : frames_of new ≡ Block (length (variables_of old)) body ∷ Loop (stmt.While e body) ∷ frames_of old =
-        opened
-        ∙ ap (λ u. Block (length u) body ∷ frames_of mid) u
-        ∙ ap (λ ks. Block (length (variables_of old)) body ∷ ks) (pushed ∙ ap (λ s. Loop s ∷ frames_of old) loop) in
+    opened
+    ∙ ap (λ u. Block (length u) body ∷ frames_of mid) u
+    ∙ ap (λ ks. Block (length (variables_of old)) body ∷ ks) (pushed ∙ ap (λ s. Loop s ∷ frames_of old) loop) in
     ap (λ u. Spends (Leave (Next u)) (frames_of new) new.memory) (v ∙ u)
     ∙ ap (λ ks. Spends (Leave (Next (variables_of old))) ks new.memory) ks
     ∙ ap (λ (m : List ℕ). Spends (Leave (Next (variables_of old))) (Block (length (variables_of old)) body ∷ Loop (stmt.While e body) ∷ frames_of old) m) (k'.memory ∙ k.memory)

@@ -1,5 +1,5 @@
 -- How each kind of statement begins.
-use Rattle.std.proofs.Common.{◌≡◌, ℕ, List, [], ◌∷◌, ◌++◌, length, Option, Some, None, ap, ◌%◌}
+use Rattle.std.proofs.Common.{◌≡◌, ℕ, List, [], ◌∷◌, ◌++◌, length, Option, ap, ◌%◌}
 use Rattle.std.specs.Prelude.{◌*◌, ◌^◌}
 use Rattle.pan_base.specs.declared.events.Size.{Size}
 use Rattle.pan_base.specs.Events.{byte_count}
@@ -12,7 +12,7 @@ use Rattle.pan_runner.specs.declared.resolved.Stmt.{Stmt, Stmt-F, out-Stmt}
 use Rattle.pan_runner.specs.declared.resolved.Stmt.TheVariants as s
 use Rattle.pan_runner.specs.declared.resolved.Stmt.TheOpen as stmt
 use Rattle.pan_runner.specs.declared.resolved.CallOf.{CallOf}
-use Rattle.pan_runner.specs.Machine.{Next, Breaks, Continues, Returns, Raises, Becomes, Enter, Leave, Frame, Block, Loop, Called, Loading, Storing, Config, Runs, Spends, Waits, or_fails, unless_false, ask_foreign, act, begin}
+use Rattle.pan_runner.specs.Machine.{Next, Breaks, Continues, Returns, Raises, Becomes, Enter, Leave, Frame, Block, Loop, Called, Loading, Storing, Runs, Spends, Waits, or_fails, unless_false, ask_foreign, act, begin}
 use Rattle.pan_runner.specs.declared.runner.Runner.{Runner}
 use Rattle.pan_runner.specs.Runner.{names_of, variables_of, frames_of, begins}
 

@@ -1,5 +1,5 @@
 -- Foreign names by their numbers.
-use Rattle.std.proofs.Common.{◌≡◌, ◌≤◌, ◌<◌, ◌+◌, ℕ, Fits, List, length, Option, Some, None, Bool, true, refl, sym, ap, ◌∙◌, arith}
+use Rattle.std.proofs.Common.{◌≡◌, ◌≤◌, ◌<◌, ◌+◌, ℕ, Fits, List, length, Option, Some, None, true, refl, sym, ap, ◌∙◌, arith}
 use mir.Syntax.{w32}
 use Rattle.std.specs.Prelude.{slice_get, IsTrue, ◌&&◌}
 use Rattle.std.proofs.lemmas.Option.{slice_get_past}
@@ -23,7 +23,7 @@ pub unnamed : (r : Runner) (i conf conf_len array array_len count : ℕ) → cou
     → ask_foreign (names_of r) i conf conf_len array array_len (variables_of r) (frames_of r) r.memory ≡ Over Fails
 unnamed r i conf conf_len array array_len count is past =
     let none : slice_get (names_of r) i ≡ None =
-        ap (λ ns. slice_get ns i) (names_are r.checked.now) ∙ slice_get_past (foreign_names r.checked.now) i (omega (arith, is, past)) in
+    ap (λ ns. slice_get ns i) (names_are r.checked.now) ∙ slice_get_past (foreign_names r.checked.now) i (omega (arith, is, past)) in
     ap (λ o. or_fails o (λ name. or_fails (bytes_at r.memory conf conf_len) (λ c. or_fails (bytes_at r.memory array array_len) (λ a. Waits (Calling i name c array a) (variables_of r) (frames_of r) r.memory)))) none
 
 -- the number of a name takes 32 bits
@@ -38,7 +38,7 @@ sound_call name conf array size lawful c a = rw (one_line name lawful, c, a) ref
 pub asked_foreign : (r : Runner) (i conf conf_len array array_len : ℕ) (name : List ℕ) (c a : Buffer)
     → Some name ≡ slice_get (foreign_names r.checked.now) i → bytes_at r.memory conf conf_len ≡ Some (part c r.memory) → bytes_at r.memory array array_len ≡ Some (part a r.memory) → a.at + base_address ≡ array
     → Waits (Calling i name (part c r.memory) (a.at + base_address) (part a r.memory)) (variables_of r) (frames_of r) r.memory
-        ≡ ask_foreign (names_of r) i conf conf_len array array_len (variables_of r) (frames_of r) r.memory
+    ≡ ask_foreign (names_of r) i conf conf_len array array_len (variables_of r) (frames_of r) r.memory
 asked_foreign r i conf conf_len array array_len name c a named conf_is array_is at =
     let is : slice_get (names_of r) i ≡ Some name = ap (λ ns. slice_get ns i) (names_are r.checked.now) ∙ sym named in
     let waits = λ (n : List ℕ) (x : List ℕ) (addr : ℕ) (y : List ℕ). Waits (Calling i n x addr y) (variables_of r) (frames_of r) r.memory in

@@ -1,5 +1,5 @@
 -- What a statement is resolved to, at each variant, and the variables behind it.
-use Rattle.std.proofs.Common.{◌≡◌, ℕ, List, [], ◌∷◌, map, drop, Option, Some, None, refl, sym, ap, ◌∙◌}
+use Rattle.std.proofs.Common.{◌≡◌, ℕ, List, [], ◌∷◌, drop, Option, Some, None, refl, sym, ap, ◌∙◌}
 use Rattle.pan_base.specs.declared.events.Size.{Size}
 use Rattle.pan_tree.specs.Scopes.{innermost, declare}
 use Rattle.pan_tree.specs.Meaning.{function_index, exception_index, foreign_index}
@@ -14,9 +14,8 @@ use Rattle.pan_tree.specs.declared.syntax.StmtKind.{StmtKind, StmtKind-F, roll-S
 use Rattle.pan_tree.specs.declared.syntax.StmtKind.TheOpen as open_stmt
 use Rattle.pan_tree.specs.declared.syntax.StmtKind.TheVariants as source
 use Rattle.pan_tree.specs.declared.program.Program.{Program as Source}
-use Rattle.pan_runner.specs.declared.resolved.Stmt.{Stmt}
 use Rattle.pan_runner.specs.declared.resolved.Stmt.TheVariants as stmt
-use Rattle.pan_runner.specs.Resolving.{Places, Resolving, with_variable, resolved_expr, resolved_exprs, block, after_target, block_resolving, call_resolving, handler_resolving, resolved_call, resolved_layer, resolved_kind, resolving, resolved_stmts}
+use Rattle.pan_runner.specs.Resolving.{Places, Resolving, with_variable, resolved_expr, resolved_exprs, block, after_target, block_resolving, call_resolving, resolved_call, resolved_layer, resolved_kind, resolved_stmts}
 use Rattle.pan_runner.proofs.ResolvedStmts.{resolved_roll}
 
 module _ (p : Source) (v : Places) where

@@ -1,5 +1,5 @@
 -- A runner that waits takes an answer.
-use Rattle.std.proofs.Common.{◌≡◌, ℕ, refl, sym, ap, ◌∙◌, subst, arith, List, ◌∷◌, length, Some, Bool, true, false}
+use Rattle.std.proofs.Common.{◌≡◌, ℕ, refl, sym, ap, ◌∙◌, subst, List, length, Some, Bool, true, false}
 use Rattle.std.specs.Prelude.{IsTrue}
 use Rattle.pan_base.specs.Events.{Asked, Replied, Fits, fits, Stopped}
 use Rattle.pan_port.specs.Asker.{Meaning, Answers, Takes, Ends}
@@ -8,7 +8,7 @@ use Rattle.pan_runner.specs.declared.resolved.Program.{Program}
 use Rattle.pan_runner.specs.declared.phase.Phase.TheVariants as phase
 use Rattle.pan_runner.specs.declared.questions.Question.{Question}
 use Rattle.pan_runner.specs.declared.runner.Runner.{Runner}
-use Rattle.pan_runner.specs.Machine.{Frame, Leave, Next, Pending, Config, Runs, Waits, Over, request_of, variables_after, memory_after, where_fits, replied_config}
+use Rattle.pan_runner.specs.Machine.{Frame, Leave, Next, Pending, Runs, Waits, Over, request_of, variables_after, memory_after, where_fits, replied_config}
 use Rattle.pan_runner.specs.View.{config_in, pending_of, pending_in}
 use Rattle.pan_runner.specs.Runner.{names_of, names_in, variables_of, frames_of, config_of, meaning_in, meaning_of, Keeps}
 use Rattle.pan_runner.proofs.Reaching.{answer_ahead}

@@ -1,10 +1,10 @@
 -- No step comes to a stop by a reply.
-use Rattle.std.proofs.Common.{◌≡◌, ℕ, zero, suc, List, [], ◌∷◌, ◌++◌, length, Option, Some, None, Bool, true, false, subst}
-use Rattle.std.specs.Prelude.{nat_eq, if◌then◌else◌, slice_get, ◌*◌, ◌^◌, ◌%◌}
+use Rattle.std.proofs.Common.{◌≡◌, ℕ, zero, suc, List, [], ◌∷◌, ◌++◌, length, Option, Some, None, Bool, true, false}
+use Rattle.std.specs.Prelude.{nat_eq, if◌then◌else◌, slice_get, ◌%◌}
 use Rattle.std.specs.Option.{option_map_or}
 use Rattle.pan_control.specs.Memory.{is_shared, bytes_at, with_byte, with_words}
 use Rattle.pan_control.specs.Control.{if_not_zero}
-use Rattle.pan_tree.specs.Value.{Value, Word, Struct, word_of, words_in}
+use Rattle.pan_tree.specs.Value.{Value, word_of, words_in}
 use Rattle.pan_tree.specs.Meaning.{exit_of}
 use Rattle.pan_runner.specs.Slots.{Variables, into_nothing, value, word, values}
 use Rattle.pan_runner.specs.declared.resolved.Stmt.{Stmt, Stmt-F, out-Stmt}
@@ -13,7 +13,7 @@ use Rattle.pan_runner.specs.declared.resolved.HandlerOf.{HandlerOf}
 use Rattle.pan_runner.specs.declared.resolved.Function.{Function}
 use Rattle.pan_runner.specs.declared.resolved.Program.{Program}
 use Rattle.pan_runner.specs.Machine.{Way, Next, Breaks, Continues, Returns, Raises, Becomes, Doing, Enter, Leave, Frame, Block, Loop, Called, Config, Runs, Spends, Waits, Over, or_fails, unless_false, ask_foreign, act, begin, enter, catch, leave_frame, leave_main, leave, step}
-use Rattle.pan_runner.specs.View.{stepped, is_running, is_spending, fed, IsGoing, IsUnstopped}
+use Rattle.pan_runner.specs.View.{stepped, is_running, is_spending, fed, IsUnstopped}
 use Rattle.pan_runner.proofs.Lighter.{either, unless}
 
 given : {A : Type 0} (a : Option A) (next : A → Config) → ((a : A) → IsUnstopped (next a)) → IsUnstopped (or_fails a next)

@@ -1,5 +1,5 @@
 -- A runner's parts as the definitions see them.
-use Rattle.std.specs.Prelude.{◌≡◌, ℕ, ◌+◌, ◌==◌, ◌&&◌, not, nat_le, List, [], ◌∷◌, length, take, drop, Option, Some, None, unwrap_or, slice_get, Bool, true, false}
+use Rattle.std.specs.Prelude.{◌≡◌, ℕ, ◌+◌, ◌==◌, ◌&&◌, not, nat_le, List, [], ◌∷◌, take, drop, Option, Some, None, unwrap_or, slice_get, Bool, true, false}
 use Rattle.std.specs.List.{list_all}
 use Rattle.pan_base.specs.Events.{Asked, Ending, Exit, Uncaught, Fails, Stopped, end_of}
 use Rattle.pan_base.specs.Words.{base_address}

@@ -1,5 +1,4 @@
-use Rattle.std.proofs.Common.{◌≡◌, ◌∙◌, ap, sym}
-use Rattle.std.specs.Prelude.{Some}
+use Rattle.std.proofs.Common.{◌∙◌, ap, sym}
 use Rattle.std.proofs.lemmas.List.{map-set}
 use Rattle.pan_runner.specs.Slots.{assigned}
 use Rattle.pan_runner.specs.Told.{told, all_told}

@@ -1,9 +1,9 @@
-use Rattle.std.proofs.Common.{◌≡◌, ◌∷◌, ◌++◌, [], length, sym, ap, ◌∙◌}
+use Rattle.std.proofs.Common.{sym, ap, ◌∙◌}
 use Rattle.pan_runner.specs.Told.{told, all_told}
 use Rattle.pan_runner.specs.Machine.{Next, Leave, Runs}
-use Rattle.pan_runner.specs.Runner.{variables_of, frames_of}
-use Rattle.pan_runner.proofs.Begun.{word_some, word_none, seen_some, seen_none, where_so, where_not, told_more, at_next}
-use Rattle.pan_runner.proofs.Equations.{begins_skip, begins_declare, begins_assign, begins_store_words, begins_store_byte, begins_if, begins_while, begins_call, begins_return, begins_tail_call, begins_raise, begins_load, begins_store, begins_foreign}
+use Rattle.pan_runner.specs.Runner.{frames_of}
+use Rattle.pan_runner.proofs.Begun.{seen_some, seen_none, told_more, at_next}
+use Rattle.pan_runner.proofs.Equations.{begins_declare}
 use Rattle.pan_runner.proofs.runner.Runner.declare.Goals as goal
 
 pub returns-in_default-clause-config : goal.returns-in_default-clause-config

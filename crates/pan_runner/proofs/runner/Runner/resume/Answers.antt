@@ -1,4 +1,4 @@
-use Rattle.std.proofs.Common.{◌≡◌, sym, ap, ◌∙◌}
+use Rattle.std.proofs.Common.{sym, ap, ◌∙◌}
 use Rattle.pan_base.specs.Events.{replied}
 use Rattle.pan_base.specs.declared.events.Reply.{Reply}
 use Rattle.pan_runner.specs.Machine.{Next, Leave, Runs, variables_after, memory_after}
