@@ -17,11 +17,7 @@ fn answer(alloc: Global, source: &[u8]) -> Answer {
 }
 
 /// Each source is refused at its place, for its cause.
-fn refuses(
-    rt: &impl Abort,
-    alloc: Global,
-    rows: &[(&str, u32, &'static str)],
-) -> Result<(), Fail> {
+fn refuses(rt: &impl Abort, alloc: Global, rows: &[(&str, u32, &'static str)]) -> Result<(), Fail> {
     for (source, place, cause) in rows {
         let refused = Err((*place, *cause));
         assert_eq!(rt; answer(alloc, source.as_bytes()), refused, "{source}");
@@ -33,58 +29,71 @@ fn refuses(
 const ITEMS: [(&str, u32, &str); 21] = [
     (
         "exception E 1; exception E 2; fun main() { return 0; }",
-        15, "TwoNames",
+        15,
+        "TwoNames",
     ),
     (
         "fun f() { return 0; } fun f(1 a) { return a; } fun main() { return 0; }",
-        22, "TwoNames",
+        22,
+        "TwoNames",
     ),
     (
         "fun main() { return 0; } fun main() { return 0; }",
-        25, "TwoNames",
+        25,
+        "TwoNames",
     ),
     (
         "fun f(1 a, 1 a) { return a; } fun main() { return 0; }",
-        0, "TwoNames",
+        0,
+        "TwoNames",
     ),
     (
         "fun f() { return 0; } fun g(1 a, 2 b, 1 a) { return a; } fun main() { return 0; }",
-        22, "TwoNames",
+        22,
+        "TwoNames",
     ),
     ("", 0, "NoMain"),
     ("exception E 1; fun f() { return 0; } ", 0, "NoMain"),
     (
         "fun f() { return 0; } fun main(1 a) { return a; }",
-        22, "MainShape",
+        22,
+        "MainShape",
     ),
     (
         "fun f() { return 0; } fun 2 main() { return <1, 2>; }",
-        22, "MainShape",
+        22,
+        "MainShape",
     ),
     (
         "fun f() { return 0; } fun {1} main() { return <1>; }",
-        22, "MainShape",
+        22,
+        "MainShape",
     ),
     (
         "exception E 1; exception F 65; fun main() { return 0; }",
-        15, "ShapeTooWide",
+        15,
+        "ShapeTooWide",
     ),
     (
         "exception E 1; exception F {32, {32, 1}}; fun main() { return 0; }",
-        15, "ShapeTooWide",
+        15,
+        "ShapeTooWide",
     ),
     (
         "fun 65 f(1 s) { return s; } fun main() { return 0; }",
-        0, "ShapeTooWide",
+        0,
+        "ShapeTooWide",
     ),
     (
         "fun f() { return 0; } fun g(33 a, 32 b) { return 0; } fun main() { return 0; }",
-        22, "ShapeTooWide",
+        22,
+        "ShapeTooWide",
     ),
     ("fun main() { }", 0, "NoReturn"),
     (
         "fun f() { return 0; } fun g() { skip; } fun main() { return 0; }",
-        22, "NoReturn",
+        22,
+        "NoReturn",
     ),
     ("fun main() { if 1 { return 0; } else { } }", 0, "NoReturn"),
     ("fun main() { if 1 { } else { return 0; } }", 0, "NoReturn"),
@@ -97,27 +106,33 @@ const ITEMS: [(&str, u32, &str); 21] = [
 const NAMES: [(&str, u32, &str); 23] = [
     (
         "fun main() { var x = 1; var x = 2; return x; }",
-        24, "TwoNames",
+        24,
+        "TwoNames",
     ),
     (
         "fun main() { while 1 { var x = 1; var x = <1>; } return 0; }",
-        34, "TwoNames",
+        34,
+        "TwoNames",
     ),
     (
         "fun f(1 a) { var a = 1; return a; } fun main() { return 0; }",
-        13, "TwoNames",
+        13,
+        "TwoNames",
     ),
     (
         "exception E 1; fun f() { return 0; } fun main() { f() handle E e { var e = 1; }; return 0; }",
-        67, "TwoNames",
+        67,
+        "TwoNames",
     ),
     (
         "fun f() { return 0; } fun main() { var x = f(); var x = f(); return x; }",
-        48, "TwoNames",
+        48,
+        "TwoNames",
     ),
     (
         "fun f() { return 0; } fun main() { var x = 1; var x = f(); return x; }",
-        46, "TwoNames",
+        46,
+        "TwoNames",
     ),
     ("fun main() { return y; }", 20, "UnknownName"),
     ("fun main() { return 1 + (y); }", 25, "UnknownName"),
@@ -125,43 +140,52 @@ const NAMES: [(&str, u32, &str); 23] = [
     ("fun main() { y = 1; return 0; }", 13, "UnknownName"),
     (
         "fun f() { return 0; } fun main() { y = f(); return 0; }",
-        35, "UnknownName",
+        35,
+        "UnknownName",
     ),
     ("fun main() { y = !ld8 0; return 0; }", 13, "UnknownName"),
     (
         "fun main() { if 1 { var x = 1; } else { x = 2; } return 0; }",
-        40, "UnknownName",
+        40,
+        "UnknownName",
     ),
     (
         "fun main() { while 0 { var x = 1; } return x; }",
-        43, "UnknownName",
+        43,
+        "UnknownName",
     ),
     (
         "exception E 1; fun f() { return 0; } fun main() { f() handle E e { }; return e; }",
-        77, "UnknownName",
+        77,
+        "UnknownName",
     ),
     (
         "fun f(1 a) { return a; } fun main() { return a; }",
-        45, "UnknownName",
+        45,
+        "UnknownName",
     ),
     ("fun main() { f(); return 0; }", 13, "UnknownFunction"),
     (
         "fun main() { var x = f(); return x; }",
-        13, "UnknownFunction",
+        13,
+        "UnknownFunction",
     ),
     ("fun main() { return f(); }", 13, "UnknownFunction"),
     (
         "exception E 1; fun main() { E(); return 0; }",
-        28, "UnknownFunction",
+        28,
+        "UnknownFunction",
     ),
     ("fun main() { raise E 1; }", 13, "UnknownException"),
     (
         "fun f() { return 0; } fun main() { raise f 1; }",
-        35, "UnknownException",
+        35,
+        "UnknownException",
     ),
     (
         "fun f() { return 0; } fun main() { f() handle E e { }; return 0; }",
-        35, "UnknownException",
+        35,
+        "UnknownException",
     ),
 ];
 
@@ -169,84 +193,99 @@ const NAMES: [(&str, u32, &str); 23] = [
 const SHAPES: [(&str, u32, &str); 25] = [
     (
         "fun main() { var x = 1; x = <1>; return x; }",
-        24, "WrongShape",
+        24,
+        "WrongShape",
     ),
     (
         "fun main() { var x = <1, 2>; x = <1, 2, 3>; return 0; }",
-        29, "WrongShape",
+        29,
+        "WrongShape",
     ),
     (
         "fun f(1 a) { return a; } fun main() { f(<1>); return 0; }",
-        38, "WrongShape",
+        38,
+        "WrongShape",
     ),
     (
         "fun f(1 a) { return a; } fun main() { return f(<1>); }",
-        38, "WrongShape",
+        38,
+        "WrongShape",
     ),
     (
         "fun f() { return 0; } fun main() { var x = <1>; x = f(); return 0; }",
-        48, "WrongShape",
+        48,
+        "WrongShape",
     ),
     ("fun main() { return <1>; }", 13, "WrongShape"),
     (
         "fun 2 f() { return <1>; } fun main() { return 0; }",
-        12, "WrongShape",
+        12,
+        "WrongShape",
     ),
     (
         "fun 2 f() { return <1, 2>; } fun main() { return f(); }",
-        42, "WrongShape",
+        42,
+        "WrongShape",
     ),
-    (
-        "exception E 2; fun main() { raise E 1; }",
-        28, "WrongShape",
-    ),
+    ("exception E 2; fun main() { raise E 1; }", 28, "WrongShape"),
     (
         "exception E 1; fun main() { raise E <1>; }",
-        28, "WrongShape",
+        28,
+        "WrongShape",
     ),
     (
         "fun main() { var x = <1>; x = !ld8 0; return 0; }",
-        26, "WrongShape",
+        26,
+        "WrongShape",
     ),
     (
         "fun f(1 a) { return a; } fun main() { f(); return 0; }",
-        38, "WrongCount",
+        38,
+        "WrongCount",
     ),
     (
         "fun f(1 a) { return a; } fun main() { f(1, 2); return 0; }",
-        38, "WrongCount",
+        38,
+        "WrongCount",
     ),
     (
         "fun f() { return 0; } fun main() { f(<1>); return 0; }",
-        35, "WrongCount",
+        35,
+        "WrongCount",
     ),
     (
         "fun f(1 a) { return a; } fun main() { return f(); }",
-        38, "WrongCount",
+        38,
+        "WrongCount",
     ),
     (
         "fun f(1 a) { return a; } fun main() { var x = <1>; x = f(); return 0; }",
-        51, "WrongShape",
+        51,
+        "WrongShape",
     ),
     (
         "fun 2 f(1 a) { return <a, 2>; } fun main() { return f(); }",
-        45, "WrongShape",
+        45,
+        "WrongShape",
     ),
     ("fun main() { var x = 1; return x.0; }", 31, "NotStruct"),
     ("fun main() { return 1.0; }", 20, "NotStruct"),
     (
         "fun main() { var s = <1, 2>; return s.0.0; }",
-        36, "NotStruct",
+        36,
+        "NotStruct",
     ),
     ("fun main() { return (<1, 2>).0.1; }", 20, "NotStruct"),
     ("fun main() { var s = <1, 2>; return s.2; }", 36, "NoField"),
     (
         "fun main() { var s = < <1, 2>, 3>; return s.0.2; }",
-        42, "NoField",
+        42,
+        "NoField",
     ),
     (
         "fun f(2 a) { return a.2; } fun main() { return 0; }",
-        20, "NoField",
+        20,
+        "NoField",
     ),
     ("fun main() { return (<1>.1); }", 21, "NoField"),
 ];
@@ -269,12 +308,14 @@ const WORDS: [(&str, u32, &str); 29] = [
     ("fun main() { stb 1, <1>; return 0; }", 13, "NotWord"),
     (
         "fun main() { if <1> { } else { } return 0; }",
-        13, "NotWord",
+        13,
+        "NotWord",
     ),
     ("fun main() { while <1> { } return 0; }", 13, "NotWord"),
     (
         "fun main() { var x = 1; x = !ld8 <1>; return 0; }",
-        24, "NotWord",
+        24,
+        "NotWord",
     ),
     ("fun main() { !st8 <1>, 1; return 0; }", 13, "NotWord"),
     ("fun main() { !st64 1, <1>; return 0; }", 13, "NotWord"),
@@ -296,70 +337,77 @@ const PLACES: [(&str, u32, &str); 24] = [
     ("fun main() { continue; }", 13, "LoopOutside"),
     (
         "fun main() { while 1 { break; } break; return 0; }",
-        32, "LoopOutside",
+        32,
+        "LoopOutside",
     ),
     (
         "fun f() { return 0; } exception E 1; fun main() { if 1 { continue; } else { } return 0; }",
-        57, "LoopOutside",
+        57,
+        "LoopOutside",
     ),
     (
         "fun f(64 a) { var s = <a, 1>; return 0; } fun main() { return 0; }",
-        22, "ShapeTooWide",
+        22,
+        "ShapeTooWide",
     ),
     (
         "fun main() { var s = lds 65 0; return 0; }",
-        21, "ShapeTooWide",
+        21,
+        "ShapeTooWide",
     ),
     (
         "fun main() { return (lds {64, 1} 0).1; }",
-        21, "ShapeTooWide",
+        21,
+        "ShapeTooWide",
     ),
     (
         "fun main() { skip; @aaaaaaaaaaaaaaaaaaaaaaaaaaaaaaaaaaaaaaaaaaaaaaaaaaaaaaaaaaaaaaaaa(1, 2, 3, 4); return 0; }",
-        19, "TooMany",
+        19,
+        "TooMany",
     ),
     (
         "fun main() { return y; } exception E 65;",
-        25, "ShapeTooWide",
+        25,
+        "ShapeTooWide",
     ),
     (
         "fun f() { return y; } fun f() { return 0; }",
-        22, "TwoNames",
+        22,
+        "TwoNames",
     ),
     ("fun f() { return y; }", 0, "NoMain"),
     (
         "fun f() { return y; } fun 2 main() { return 1; }",
-        22, "MainShape",
+        22,
+        "MainShape",
     ),
     (
         "fun f() { return y; } fun main() { break; }",
-        17, "UnknownName",
+        17,
+        "UnknownName",
     ),
-    (
-        "fun main() { if y { break; } else { } }",
-        16, "UnknownName",
-    ),
+    ("fun main() { if y { break; } else { } }", 16, "UnknownName"),
     ("fun main() { if <1> { break; } else { } }", 13, "NotWord"),
-    (
-        "fun main() { if 1 { } else { break; } }",
-        29, "LoopOutside",
-    ),
+    ("fun main() { if 1 { } else { break; } }", 29, "LoopOutside"),
     ("fun main() { return <1> . 0 . 0 ; }", 20, "NotStruct"),
     ("fun main() { return y + <1>; }", 20, "UnknownName"),
     ("fun main() { return <1> + z; }", 26, "UnknownName"),
     ("fun main() { st y, z; return 0; }", 16, "UnknownName"),
     (
         "fun f(1 a) { return a; } fun main() { var x = f(y); return x; }",
-        48, "UnknownName",
+        48,
+        "UnknownName",
     ),
     ("fun main() { x = f(1); return 0; }", 13, "UnknownName"),
     (
         "fun main() { f() handle E e { break; }; return 0; }",
-        13, "UnknownFunction",
+        13,
+        "UnknownFunction",
     ),
     (
         "fun f(1 a) { return a; } fun main() { f() handle E e { break; }; return 0; }",
-        38, "UnknownException",
+        38,
+        "UnknownException",
     ),
 ];
 
@@ -367,7 +415,8 @@ const PLACES: [(&str, u32, &str); 24] = [
 const TEXTS: [(&str, u32, &str); 7] = [
     (
         "fun main() { return 18446744073709551616; }",
-        20, "BadNumber",
+        20,
+        "BadNumber",
     ),
     ("fun main() { return $; }", 20, "BadByte"),
     ("/* x", 0, "OpenComment"),
@@ -393,14 +442,8 @@ const WEIGHTS: [(&str, u64); 8] = [
         "fun main() { var x = 1; if 1 { var x = <1>; } else { } return x; }",
         33,
     ),
-    (
-        "fun main() { while 1 { break; } return 1 << 63; }",
-        23,
-    ),
-    (
-        "fun 64 f(64 a) { return a; } fun main() { return 0; }",
-        212,
-    ),
+    ("fun main() { while 1 { break; } return 1 << 63; }", 23),
+    ("fun 64 f(64 a) { return a; } fun main() { return 0; }", 212),
     (
         "exception E 64; fun f() { raise E lds 64 0; } fun main() { if 1 { return 1; } else { return f(); } }",
         98,
@@ -449,7 +492,11 @@ fn texts(rt: HostRuntime) -> Result<(), Fail> {
 #[test]
 fn weights(rt: HostRuntime) -> Result<(), Fail> {
     for (source, weight) in WEIGHTS {
-        assert_eq!(rt; answer(rt.alloc(), source.as_bytes()), Ok(weight), "{source}");
+        assert_eq!(rt;
+            answer(rt.alloc(), source.as_bytes()),
+            Ok(weight),
+            "{source}"
+        );
     }
     Ok(())
 }
@@ -494,7 +541,11 @@ fn long_sources(rt: HostRuntime) -> Result<(), Fail> {
         ("fun main() { return ", "(", 128, "", Err((147, "TooDeep"))),
     ] {
         let source = repeated(rt.alloc(), front, text, count, back)?;
-        assert_eq!(rt; answer(rt.alloc(), source.as_slice()), want, "{count} of {text}");
+        assert_eq!(rt;
+            answer(rt.alloc(), source.as_slice()),
+            want,
+            "{count} of {text}"
+        );
     }
     Ok(())
 }
@@ -515,7 +566,14 @@ const MAIN: &str = "fun main() { return 0; }";
 /// What comes first, two texts round a number, how often they come, what comes last, and what is answered.
 const MANY: [(&str, &str, &str, u16, &str, Answer); 6] = [
     ("", "exception e", " 1; ", 1_024, MAIN, Ok(11)),
-    ("", "exception e", " 1; ", 1_025, MAIN, Err((19_456, "TooMany"))),
+    (
+        "",
+        "exception e",
+        " 1; ",
+        1_025,
+        MAIN,
+        Err((19_456, "TooMany")),
+    ),
     ("", "fun f", "() { return 0; } ", 4_095, MAIN, Ok(45_056)),
     (
         "",
@@ -552,7 +610,11 @@ fn many_names(rt: HostRuntime) -> Result<(), Fail> {
         let names = numbered(alloc, before, after.as_bytes(), count)?;
         source.extend_from_slice(names.as_slice())?;
         source.extend_from_slice(back.as_bytes())?;
-        assert_eq!(rt; answer(alloc, source.as_slice()), want, "{count} of {before}");
+        assert_eq!(rt;
+            answer(alloc, source.as_slice()),
+            want,
+            "{count} of {before}"
+        );
     }
     Ok(())
 }
@@ -574,6 +636,9 @@ fn heavy_programs(rt: HostRuntime) -> Result<(), Fail> {
     assert_eq!(rt; answer(alloc, heaviest.as_slice()), Ok(262_144));
 
     heaviest.extend_from_slice(b"fun f() { return 0; }")?;
-    assert_eq!(rt; answer(alloc, heaviest.as_slice()), Err((0, "ProgramTooHeavy")));
+    assert_eq!(rt;
+        answer(alloc, heaviest.as_slice()),
+        Err((0, "ProgramTooHeavy"))
+    );
     Ok(())
 }
