@@ -1,5 +1,5 @@
 -- The command line, as `clap` sees a command.
-use Rattle.std.specs.Prelude.{ℕ, Bool, true, List, [], ◌∷◌, fold, codes, Option, Some}
+use Rattle.std.specs.Prelude.{ℕ, true, List, [], ◌∷◌, fold, codes, Option, Some}
 use Rattle.clap.specs.Words.{App, Rule, fault_of, first_of, matches_of, new_app, new_rule, with_rule}
 use Rattle.clap.specs.Kinds.{Kinds}
 use Rattle.clap.specs.Simple.{on_top}
