@@ -4,6 +4,9 @@ use Rattle.clap.specs.Words.{App, Rule, fault_of, first_of, matches_of, new_app,
 use Rattle.clap.specs.Kinds.{Kinds}
 use Rattle.clap.specs.Simple.{on_top}
 
+-- In `clap` an argument is a rule. `new_rule` takes one value: a word at the next place that is left for words, or with a
+-- long name the value of an option. `with_rule` adds it to a command.
+
 -- a word that the command line must have, at its place
 abbrev pub needed : List ℕ → Rule
 needed name = record (new_rule name) { required = true }
@@ -12,8 +15,8 @@ needed name = record (new_rule name) { required = true }
 abbrev pub valued : List ℕ → Rule
 valued name = record (new_rule name) { long = Some name }
 
--- ACTION and FIRST at their places, SECOND after them if it is there, and four options anywhere, each at most once.
--- Nothing else: no help and no version. The program's own name is none of the words.
+-- The command: ACTION and FIRST, SECOND after them if it is there, and four options anywhere, each at most once. Nothing else:
+-- no help and no version. The program's own name is none of the words.
 unfoldable pub panc : App
 panc =
     fold with_rule
@@ -21,12 +24,13 @@ panc =
     (needed (codes "ACTION") ∷ needed (codes "FIRST") ∷ new_rule (codes "SECOND")
     ∷ valued (codes "stack") ∷ valued (codes "local") ∷ valued (codes "steps") ∷ valued (codes "stage") ∷ [])
 
--- What `clap` finds wrong with the words: nothing where they have the form of the command line. Something is wrong where a
--- word is missing or there is one too many, where a word that begins with `-` (and isn't `-` alone, and stands before `--`)
--- is none of the options, or where an option has no value or comes twice.
+-- What `clap` finds wrong with the words (`fault_of`, the kinds of errors that they may give): nothing where they have the
+-- form of the command. Something is wrong where a word is missing or there is one too many, where a word before `--` begins
+-- with `-`, isn't `-` alone and is none of the options, or where an option has no value or comes twice.
 unfoldable pub faults : List (List ℕ) → Kinds
 faults words = fault_of panc words
 
--- The value that the words give an argument, if they give one: the whole word at its place, or an option's value.
+-- The value that the words give an argument, if they give it one (`matches_of`, what the arguments match, and `first_of`, the
+-- first value of one of them): the word at its place, or the option's value.
 unfoldable pub given : List (List ℕ) → List ℕ → Option (List ℕ)
 given words name = first_of name (matches_of panc words)

@@ -44,7 +44,7 @@ abbrev pub number_or : ℕ → Option (List ℕ) → Option ℕ
 number_or n None = Some n
 number_or n (Some text) = numeral text
 
--- the stage that an option's value names, or the last one where the words don't give the option
+-- the stage that an option's value names, or `code` where the words don't give the option
 abbrev pub stage_or_code : Option (List ℕ) → Option Stage
 stage_or_code None = Some Code
 stage_or_code (Some text) =

@@ -31,7 +31,7 @@ fn checked_size(bytes: u64, unit: u64) -> Option<u64>
     (bytes % unit == 0 && bytes <= MAX_BYTES).then_some(bytes)
 }
 
-/// The stage that an option's value names, or the last one where the option isn't given.
+/// The stage that an option's value names, or `code` where the option isn't given.
 fn stage_or_code(value: Option<&str>) -> Option<Stage>
     ensures { result ≡ stage_or_code (option_map (λ text. text.now) value.entry) }
 {
