@@ -3,10 +3,8 @@
 
 mod cutting;
 mod error;
-mod numbers;
 mod reading;
 
 pub use cutting::{next_line, next_word};
 pub use error::{Cause, ReplyFileError};
-pub use numbers::number;
 pub use reading::read_replies;

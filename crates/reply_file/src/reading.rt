@@ -9,7 +9,7 @@ ghost use Rattle.reply_file.specs.Told.{own_replied, said_by, Adds, RefusesLine,
 
 use crate::cutting::{next_line, next_word};
 use crate::error::{Cause, ReplyFileError};
-use crate::numbers::number;
+use numerals::number;
 use pan_base::List;
 use pan_port::OwnReply;
 use std::alloc::Global;

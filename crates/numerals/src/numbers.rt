@@ -2,7 +2,7 @@
 
 ghost use Rattle.std.specs.Prelude.{◌≡◌, ◌<◌};
 ghost use Rattle.pan_base.specs.Spelling.{number_of_digits, numeral};
-ghost use Rattle.reply_file.specs.Cutting.{is_digit_in, digit_of};
+ghost use Rattle.numerals.specs.Digits.{is_digit_in, digit_of};
 
 /// What the byte stands for as a digit of the base, in either case.
 fn digit(byte: u8, base: u64) -> Option<u64>

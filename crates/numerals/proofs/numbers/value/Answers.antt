@@ -1,8 +1,8 @@
 use Rattle.std.proofs.Common.{◌≤◌, ◌+◌, ◌*◌, ◌^◌, get_or, sym, ◌∙◌, arith}
 use Rattle.std.proofs.lemmas.Bool.Decides.{nat_tests}
 use Rattle.pan_base.specs.Spelling.{digit_value}
-use Rattle.reply_file.proofs.NumberLemmas.{digit_is, too_large, all_read}
-use Rattle.reply_file.proofs.numbers.value.Goals as goal
+use Rattle.numerals.proofs.NumberLemmas.{digit_is, too_large, all_read}
+use Rattle.numerals.proofs.numbers.value.Goals as goal
 
 pub returns-in_err-checked_mul : goal.returns-in_err-checked_mul
 returns-in_err-checked_mul c =

@@ -7,7 +7,7 @@ use Rattle.std.specs.List.{list_all}
 use Rattle.std.specs.Str.{bytes_eq}
 use Rattle.pan_base.specs.Names.{is_digit}
 use Rattle.pan_base.specs.Spelling.{value_after, digit_value, is_hex_digit, number_of_digits, numeral}
-use Rattle.reply_file.specs.Cutting.{is_digit_in, digit_of}
+use Rattle.numerals.specs.Digits.{is_digit_in, digit_of}
 
 -- a digit comes
 pub digit_is : (base b n : ℕ) → digit_of base b ≡ Some n → (is_digit_in base b ≡ true) × (n ≡ digit_value b)

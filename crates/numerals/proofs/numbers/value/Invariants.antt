@@ -1,8 +1,8 @@
 use Rattle.std.proofs.Common.{◌≡◌, ◌<◌, ◌^◌, drop}
 use Rattle.std.specs.List.{list_all}
 use Rattle.pan_base.specs.Spelling.{value_after}
-use Rattle.reply_file.specs.Cutting.{is_digit_in}
-use Rattle.reply_file.proofs.numbers.value.Given as goal
+use Rattle.numerals.specs.Digits.{is_digit_in}
+use Rattle.numerals.proofs.numbers.value.Given as goal
 
 -- what is left to read completes what is read
 abbrev pub invariant-loop-byte : goal.invariant-loop-byte

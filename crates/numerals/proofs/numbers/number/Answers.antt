@@ -1,5 +1,5 @@
-use Rattle.reply_file.proofs.NumberLemmas.{numeral_hexadecimal, numeral_decimal}
-use Rattle.reply_file.proofs.numbers.number.Goals as goal
+use Rattle.numerals.proofs.NumberLemmas.{numeral_hexadecimal, numeral_decimal}
+use Rattle.numerals.proofs.numbers.number.Goals as goal
 
 pub returns-in-Some : goal.returns-in-Some
 returns-in-Some c = numeral_hexadecimal c.args.word.now c.in-Some.digits.now c.value.result c.in-Some.ensures.cases.0 c.in-Some.ensures.cases.1 c.value.ensures

@@ -1,0 +1,3 @@
+pub mod Panc
+pub mod Words
+pub mod Told

@@ -1,0 +1,11 @@
+-- The digits of a base.
+use Rattle.std.specs.Prelude.{ℕ, ◌&&◌, nat_lt, Bool, if◌then◌else◌, Option, Some, None}
+use Rattle.pan_base.specs.Spelling.{is_hex_digit, digit_value}
+
+-- a digit of the base, which is at most 16
+abbrev pub is_digit_in : ℕ → ℕ → Bool
+is_digit_in base b = is_hex_digit b && nat_lt (digit_value b) base
+
+-- what a digit of the base stands for
+abbrev pub digit_of : ℕ → ℕ → Option ℕ
+digit_of base b = if is_digit_in base b then Some (digit_value b) else None
