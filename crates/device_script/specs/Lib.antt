@@ -1,0 +1,9 @@
+pub mod Lines
+pub mod Cutting
+pub mod Rules
+pub mod Memory
+pub mod Saying
+pub mod Script
+pub mod Device
+pub mod Told
+pub mod Index

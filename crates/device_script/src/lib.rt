@@ -1,0 +1,24 @@
+//! Device scripts: local memory, and the rules by which a device answers.
+#![tactic(auto)]
+
+mod cutting;
+mod device;
+mod error;
+mod index;
+mod line;
+mod memory;
+mod numbers;
+mod reading;
+mod rule_list;
+mod rules;
+mod saying;
+mod script;
+#[cfg(test)]
+mod tests;
+mod words;
+
+pub use device::ScriptDevice;
+pub use error::{Cause, ScriptError};
+pub use line::Piece;
+pub use reading::read_script;
+pub use script::Script;
