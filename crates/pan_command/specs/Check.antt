@@ -13,7 +13,7 @@ use Rattle.front_end.specs.declared.error.SourceError.{SourceError}
 use Rattle.pan_command.specs.declared.error.BuildError.TheVariants.{Source}
 use Rattle.pan_command.specs.Served.{source_line}
 use Rattle.pan_command.specs.Outside.{Outside, Holds}
-use Rattle.pan_command.specs.Run.{FileUnread}
+use Rattle.pan_command.specs.Reading.{FileUnread}
 
 -- the line of a weight
 abbrev pub weight_line : ℕ → List ℕ
