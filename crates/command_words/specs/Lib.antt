@@ -1,3 +1,2 @@
 pub mod Panc
 pub mod Words
-pub mod Told

@@ -4,6 +4,7 @@ ghost use Rattle.std.specs.Prelude.{◌≡◌, ◌≢◌};
 ghost use Rattle.clap.specs.Words.{kind_of};
 
 use clap::error::ErrorKind;
+use pan_base::NoMemory;
 use std::alloc::AllocError;
 
 /// Why words give no order.
@@ -13,6 +14,17 @@ pub enum WordsError {
     Usage,
     /// There was no memory.
     NoMemory,
+}
+
+impl From<NoMemory> for WordsError {
+    ghost use Rattle.std.specs.Prelude.{◌≡◌};
+    ghost use Rattle.command_words.specs.declared.error.WordsError.TheVariants.{NoMemory};
+
+    ghost from_gives = { λ _ e. e ≡ NoMemory };
+
+    fn from(_error: NoMemory) -> WordsError {
+        WordsError::NoMemory
+    }
 }
 
 impl From<AllocError> for WordsError {

@@ -3,7 +3,7 @@
 ghost use Rattle.std.specs.Prelude.{◌≡◌, ℕ, ◌<◌, option_map, IfSome, IfNone, Some};
 ghost use Rattle.clap.specs.Words.{first_value, found_of};
 ghost use Rattle.command_words.specs.Words.{number_or, stage_or_code, IsSize, Gives};
-ghost use Rattle.command_words.specs.declared.order.Options.{Options as IsOptions};
+ghost use Rattle.command_words.specs.declared.order.Options.{Options as GivenOptions};
 
 use crate::order::{Options, Stage};
 use clap::ArgMatches;
@@ -45,7 +45,7 @@ fn stage_or_code(value: Option<&str>) -> Option<Stage>
 /// The options, each as it is given or by its default: `None` where a value isn't one.
 pub fn read_options(matches: &ArgMatches<'_>) -> Option<Options>
     ensures gives { IfSome result (Gives (first_value (found_of matches.now))) }
-    ensures none { IfNone result ((options : IsOptions) → ¬ Gives (first_value (found_of matches.now)) options) }
+    ensures none { IfNone result ((options : GivenOptions) → ¬ Gives (first_value (found_of matches.now)) options) }
 {
     let stack = number_or(matches.get_str("stack"), 65_536)?;
     let local = number_or(matches.get_str("local"), 65_536)?;

@@ -1,5 +1,7 @@
 //! What the words of the command line ask for.
 
+use pan_base::Text;
+
 /// How far a source is taken.
 #[derive(Clone, Copy, Debug, PartialEq, Eq)]
 pub enum Stage {
@@ -23,23 +25,23 @@ pub struct Options {
 }
 
 /// What is to be done, with the names of the files.
-#[derive(Clone, Copy, Debug, PartialEq, Eq)]
-pub enum Action<'a> {
+#[derive(Debug, Drop)]
+pub enum Action {
     /// Compile a source to an image.
-    Compile { source: &'a str, image: &'a str },
+    Compile { source: Text, image: Text },
     /// Check a source.
-    Check { source: &'a str },
+    Check { source: Text },
     /// Run an image over a script.
-    Run { image: &'a str, script: &'a str },
-    /// Run a source by its meaning over a script.
-    Meaning { source: &'a str, script: &'a str },
+    Run { image: Text, script: Text },
+    /// Run a source, by its meaning, over a script.
+    Meaning { source: Text, script: Text },
 }
 
 /// What the words ask for.
-#[derive(Clone, Copy, Debug, PartialEq, Eq)]
-pub struct Order<'a> {
+#[derive(Debug, Drop)]
+pub struct Order {
     /// What is to be done.
-    pub action: Action<'a>,
+    pub action: Action,
     /// The options, also those that the action doesn't use.
     pub options: Options,
 }

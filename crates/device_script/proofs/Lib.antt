@@ -6,3 +6,4 @@ pub mod StepLemmas
 pub mod IndexLemmas
 pub mod MemoryLemmas
 pub mod SayingLemmas
+pub mod LawLemmas

@@ -5,6 +5,7 @@ mod cutting;
 mod device;
 mod error;
 mod index;
+mod laws;
 mod line;
 mod memory;
 mod numbers;
@@ -19,6 +20,7 @@ mod words;
 
 pub use device::ScriptDevice;
 pub use error::{Cause, ScriptError};
+pub use laws::{counters_count_on, silence_changes_nothing};
 pub use line::Piece;
 pub use reading::read_script;
 pub use script::Script;

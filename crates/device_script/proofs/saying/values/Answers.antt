@@ -1,7 +1,7 @@
 use Rattle.std.proofs.Common.{sym, ap, ◌∙◌}
 use Rattle.device_script.specs.Lines.{words}
 use Rattle.device_script.specs.Saying.{numbers_said}
-use Rattle.device_script.proofs.SayingLemmas.{one_more, wrong_number, all_values, no_values, after_values}
+use Rattle.device_script.proofs.SayingLemmas.{one_more, after_values}
 use Rattle.device_script.proofs.saying.values.Goals as goal
 
 pub words-preserved : goal.words-preserved

@@ -1,7 +1,7 @@
 use Rattle.std.proofs.Common.{sym, ◌∙◌, arith}
 use Rattle.pan_base.specs.Events.{Foreign}
 use Rattle.pan_port.specs.Device.{given_by_array}
-use Rattle.device_script.specs.Rules.{answers, answers_call}
+use Rattle.device_script.specs.Rules.{answers_call}
 use Rattle.device_script.proofs.PlaceLemmas.{place_where-within}
 use Rattle.device_script.proofs.StepLemmas.{none_stepped, rule_stays}
 use Rattle.device_script.proofs.rule_list.RuleList.call.Goals as goal
