@@ -4,7 +4,6 @@ use Rattle.pan_base.specs.Causes.{Rose}
 use Rattle.pan_base.specs.Files.{NoneChanged}
 use Rattle.pan_base.specs.Sinks.{Took, TookFront}
 use Rattle.pan_tree.specs.declared.program.Program.{Program}
-use Rattle.front_end.specs.Sources.{IsChecked}
 use Rattle.image_file.specs.Parts.{ImageParts}
 use Rattle.riscv_isa.specs.Image.{ImageOf}
 use Rattle.device_script.specs.Script.{Content, script_of_file}
@@ -12,7 +11,7 @@ use Rattle.pan_command.specs.declared.status.Status.{Status}
 use Rattle.pan_command.specs.declared.status.Status.TheVariants as status
 use Rattle.pan_command.specs.Outside.{Outside, Holds}
 use Rattle.pan_command.specs.Check.{Unpassed}
-use Rattle.pan_command.specs.Reading.{FileUnread, ScriptRefused}
+use Rattle.pan_command.specs.Reading.{FileUnread, IsSource, ScriptRefused}
 use Rattle.pan_command.specs.Run.{NoImage}
 
 -- nothing was put, no write failed, and the count of failed reads didn't fall
@@ -50,7 +49,7 @@ ReadsImage name before after r = NoneChanged (before.files).files (after.files).
 -- the program of a source file, which keeps every rule, or why there is none
 abbrev pub ProgramCases : List ℕ → Outside → Outside → Result Program Status → Type 0
 ProgramCases name before after (Ok program) =
-    (bytes : List ℕ) × Holds (before.files).files name bytes × IsChecked bytes program × IsQuiet before after
+    (bytes : List ℕ) × Holds (before.files).files name bytes × IsSource bytes program × IsQuiet before after
 ProgramCases name before after (Err status.Unread) = FileUnread (Took before.out after.out) before after name
 ProgramCases name before after (Err status.Refused) = Unpassed (Took before.out after.out) before name
 ProgramCases name before after (Err status.Unput) =

@@ -5,23 +5,15 @@ use Rattle.pan_base.specs.Files.{NoneChanged}
 use Rattle.pan_base.specs.Sinks.{Took, TookFront}
 use Rattle.pan_tree.specs.declared.program.Program.{Program}
 use Rattle.pan_tree.specs.Meaning.{source}
-use Rattle.front_end.specs.Sources.{IsChecked}
 use Rattle.command_words.specs.declared.order.Options.{Options}
 use Rattle.device_script.specs.Memory.{filled}
 use Rattle.device_script.specs.Script.{Content}
 use Rattle.pan_command.specs.declared.status.Status.{Status}
 use Rattle.pan_command.specs.declared.status.Status.TheVariants as status
-use Rattle.pan_command.specs.Outside.{Outside, Holds}
+use Rattle.pan_command.specs.Outside.{Outside}
 use Rattle.pan_command.specs.Check.{Unpassed}
 use Rattle.pan_command.specs.Playing.{Goes, Played, PlayedInPart, Broken}
-use Rattle.pan_command.specs.Reading.{FileUnread, ScriptRead, ScriptRefused}
-
--- the file was read and its bytes are a source of a program, which keeps every rule
-pub record SourceRead (before : Outside) (name : List ℕ) : Type 0 where
-  pub bytes : List ℕ
-  pub held : Holds (before.files).files name bytes
-  pub program : Program
-  pub checked : IsChecked bytes program
+use Rattle.pan_command.specs.Reading.{FileUnread, SourceRead, ScriptRead, ScriptRefused}
 
 -- In what follows `Prints line` says how far the line was put: all of it, or a prefix.
 

@@ -1,7 +1,12 @@
--- What the reading of files leaves, and of scripts.
+-- What was read of a source, of an image and of a script, and why there is none.
 use Rattle.std.specs.Prelude.{◌≡◌, ◌⊎◌, ℕ, List, ◌++◌, Ok, Err, codes}
 use Rattle.std.specs.Fmt.{decimal}
 use Rattle.pan_base.specs.Causes.{Rose}
+use Rattle.pan_tree.specs.declared.program.Program.{Program}
+use Rattle.front_end.specs.Sources.{IsChecked, Unchecked}
+use Rattle.front_end.specs.declared.error.SourceError.{SourceError}
+use Rattle.riscv_isa.specs.Image.{ImageOf}
+use Rattle.image_file.specs.Parts.{ImageParts}
 use Rattle.device_script.specs.Script.{Content, Refusal, script_of_file}
 use Rattle.device_script.specs.declared.error.Cause.{Cause}
 use Rattle.device_script.specs.declared.error.Cause.TheVariants as cause
@@ -22,6 +27,26 @@ cause_text cause.Twice = codes "Twice"
 -- the line of a refused script
 abbrev pub script_line : Refusal → List ℕ
 script_line r = codes "script " ++ decimal r.line ++ codes " " ++ cause_text r.cause ++ codes "\n"
+
+-- the bytes are a source of this program and of no other, it keeps every rule, and nothing is wrong with them
+pub record IsSource (bytes : List ℕ) (program : Program) : Type 0 where
+  pub checked : IsChecked bytes program
+  pub only : (other : Program) → IsChecked bytes other → other ≡ program
+  pub accepted : (e : SourceError) → ¬ Unchecked bytes e
+
+-- the file was read and its bytes are a source
+pub record SourceRead (before : Outside) (name : List ℕ) : Type 0 where
+  pub bytes : List ℕ
+  pub held : Holds (before.files).files name bytes
+  pub program : Program
+  pub source : IsSource bytes program
+
+-- the file was read and its bytes are an image
+pub record ImageRead (before : Outside) (name : List ℕ) : Type 0 where
+  pub bytes : List ℕ
+  pub held : Holds (before.files).files name bytes
+  pub parts : ImageParts
+  pub layout : ImageOf bytes parts.code parts.names parts.bound
 
 -- the file was read and its bytes are a script
 pub record ScriptRead (before : Outside) (name : List ℕ) : Type 0 where

@@ -4,7 +4,6 @@ use Rattle.std.specs.Fmt.{decimal}
 use Rattle.pan_base.specs.Causes.{Rose}
 use Rattle.pan_base.specs.Files.{NoneChanged}
 use Rattle.pan_base.specs.Sinks.{Took, TookFront}
-use Rattle.riscv_isa.specs.Image.{ImageOf}
 use Rattle.riscv_isa.specs.Machine.{machine}
 use Rattle.image_file.specs.Faults.{fault_of}
 use Rattle.image_file.specs.Parts.{ImageParts}
@@ -19,7 +18,7 @@ use Rattle.pan_command.specs.declared.status.Status.{Status}
 use Rattle.pan_command.specs.declared.status.Status.TheVariants as status
 use Rattle.pan_command.specs.Outside.{Outside, Holds}
 use Rattle.pan_command.specs.Playing.{Goes, Played, PlayedInPart}
-use Rattle.pan_command.specs.Reading.{FileUnread, ScriptRead, ScriptRefused}
+use Rattle.pan_command.specs.Reading.{FileUnread, ImageRead, ScriptRead, ScriptRefused}
 
 -- the name of a field in a line
 abbrev pub field_text : FieldName → List ℕ
@@ -38,13 +37,6 @@ image_line (fault.BadName i) = codes "image BadName " ++ decimal i ++ codes "\n"
 image_line fault.Padding = codes "image Padding\n"
 image_line fault.Tail = codes "image Tail\n"
 image_line fault.NoMemory = []
-
--- the file was read and its bytes are an image
-pub record ImageRead (before : Outside) (image : List ℕ) : Type 0 where
-  pub bytes : List ℕ
-  pub held : Holds (before.files).files image bytes
-  pub parts : ImageParts
-  pub layout : ImageOf bytes parts.code parts.names parts.bound
 
 -- In what follows `Prints line` says how far the line was put: all of it, or a prefix.
 

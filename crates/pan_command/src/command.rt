@@ -1,6 +1,6 @@
 //! The top call.
 
-ghost use Rattle.std.specs.Prelude.{◌≡◌, ◌⊎◌, List, ℕ, map, codes, Some, None, Ok, Err, IfOk};
+ghost use Rattle.std.specs.Prelude.{◌≡◌, ◌⊎◌, List, ℕ, codes, Some, None, Ok, Err};
 ghost use Rattle.pan_base.specs.Causes.{Rose};
 ghost use Rattle.pan_base.specs.Events.{Behaviour, end_of};
 ghost use Rattle.pan_base.specs.Files.{Files, NoneChanged};
@@ -13,8 +13,8 @@ ghost use Rattle.image_file.specs.Parts.{ImageParts};
 ghost use Rattle.image_file.specs.declared.error.ImageError.{ImageError};
 ghost use Rattle.front_end.specs.Sources.{IsChecked, Unchecked};
 ghost use Rattle.front_end.specs.declared.error.SourceError.{SourceError as IsSourceError};
-ghost use Rattle.command_words.specs.Words.{Compile, Check, Run, Meaning, IsSize};
-ghost use Rattle.command_words.specs.Told.{task_of};
+ghost use Rattle.command_words.specs.Words.{IsSize};
+ghost use Rattle.command_words.specs.declared.order.Action.TheVariants.{Compile, Check, Run, Meaning};
 ghost use Rattle.command_words.specs.declared.order.Options.{Options as IsOptions};
 ghost use Rattle.device_script.specs.Script.{Content, Refusal, script_of_file};
 ghost use Rattle.pan_command.specs.declared.error.BuildError.{BuildError as IsBuildError};
@@ -29,7 +29,7 @@ ghost use Rattle.pan_command.specs.Reading.{script_line};
 ghost use Rattle.pan_command.specs.Run.{RunEnds, image_goes, image_line};
 ghost use Rattle.pan_command.specs.Meaning.{MeaningEnds, source_goes};
 ghost use Rattle.pan_command.specs.Check.{CheckEnds, weight_line};
-ghost use Rattle.pan_command.specs.Command.{Asks, AreUnlawful, TaskEnds, Ends};
+ghost use Rattle.pan_command.specs.Command.{Asks, AreUnlawful, ActionEnds, Ends};
 
 use crate::checking::check;
 use crate::compiling::compile;
@@ -37,37 +37,32 @@ use crate::meaning::meaning;
 use crate::running::run;
 use crate::status::Status;
 use command_words::{Action, Order, WordsError, read_words};
-use pan_base::{NoMemory, Sink, SinkFault, Text, Workspace, put_all};
+use pan_base::{Sink, SinkFault, Text, Workspace, put_all};
 use std::alloc::Global;
-
-/// The words as texts.
-fn texts_of<'x>(alloc: Global, words: &'x [Text]) -> Result<Vec<&'x str>, NoMemory>
-    ensures { IfOk result (λ texts. map (λ text. text.now) texts.items ≡ words.now) }
-{
-    let mut texts = Vec::new(alloc);
-    for word in words {
-        texts.push(word.as_str())?;
-    }
-    Ok(texts)
-}
 
 /// Does what an order says.
 fn perform<W: Workspace, O: Sink>(
     alloc: Global,
-    order: &Order<'_>,
+    order: &Order,
     files: &mut W,
     out: &mut O,
 ) -> Status
     requires stack { IsSize 16 order.now.options.stack }
     requires local { IsSize 8 order.now.options.local }
-    ensures { TaskEnds (task_of order.now.action) order.now.options (outside (W.state files.old) (O.state out.old)) (outside (W.state files.new) (O.state out.new)) result }
+    ensures { ActionEnds order.now.action order.now.options (outside (W.state files.old) (O.state out.old)) (outside (W.state files.new) (O.state out.new)) result }
 {
     let options = order.options;
-    match order.action {
-        Action::Compile { source, image } => compile(alloc, source, image, files, out),
-        Action::Check { source } => check(alloc, source, files, out),
-        Action::Run { image, script } => run(alloc, image, script, options, files, out),
-        Action::Meaning { source, script } => meaning(alloc, source, script, options, files, out),
+    match &order.action {
+        Action::Compile { source, image } => {
+            compile(alloc, source.as_str(), image.as_str(), files, out)
+        }
+        Action::Check { source } => check(alloc, source.as_str(), files, out),
+        Action::Run { image, script } => {
+            run(alloc, image.as_str(), script.as_str(), options, files, out)
+        }
+        Action::Meaning { source, script } => {
+            meaning(alloc, source.as_str(), script.as_str(), options, files, out)
+        }
     }
 }
 
@@ -75,10 +70,7 @@ fn perform<W: Workspace, O: Sink>(
 fn act<W: Workspace, O: Sink>(alloc: Global, words: &[Text], files: &mut W, out: &mut O) -> Status
     ensures { Ends words.now (outside (W.state files.old) (O.state out.old)) (outside (W.state files.new) (O.state out.new)) result }
 {
-    let Ok(texts) = texts_of(alloc, words) else {
-        return Status::NoMemory;
-    };
-    match read_words(alloc, texts.as_slice()) {
+    match read_words(alloc, words) {
         Ok(order) => perform(alloc, &order, files, out),
         Err(WordsError::NoMemory) => Status::NoMemory,
         Err(WordsError::Usage) => match put_all(out, b"usage\n") {

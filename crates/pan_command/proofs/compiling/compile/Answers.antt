@@ -10,7 +10,7 @@ use Rattle.pan_command.specs.declared.error.BuildError.{BuildError}
 use Rattle.pan_command.proofs.Storing.{compile_ends}
 use Rattle.front_end.proofs.Reasons.{no_error}
 use Rattle.pan_command.proofs.Refusals.{refused_so}
-use Rattle.pan_command.proofs.command.compile.Goals as goal
+use Rattle.pan_command.proofs.compiling.compile.Goals as goal
 
 pub returns-in-Ok-build : goal.returns-in-Ok-build
 returns-in-Ok-build g c =
