@@ -41,7 +41,7 @@ impl From<AllocError> for WordsError {
 /// What stands for an error of `clap`: its words are wrong in some way, or it had no memory.
 pub fn words_error(error: &clap::Error) -> WordsError
     ensures memory { kind_of error.now ≡ ErrorKind.OutOfMemory → result ≡ WordsError.NoMemory }
-    ensures usage { result ≡ WordsError.Usage → kind_of error.now ≢ ErrorKind.OutOfMemory }
+    ensures other { kind_of error.now ≢ ErrorKind.OutOfMemory → result ≡ WordsError.Usage }
 {
     match error.kind() {
         ErrorKind::OutOfMemory => WordsError::NoMemory,

@@ -6,6 +6,8 @@ mod error;
 mod options;
 mod order;
 mod reading;
+#[cfg(test)]
+mod tests;
 
 pub use error::WordsError;
 pub use order::{Action, Options, Order, Stage};

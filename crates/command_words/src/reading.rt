@@ -122,4 +122,3 @@ pub fn read_words(alloc: Global, words: &[Text]) -> Result<Order, WordsError>
     let matches = match_words(alloc, texts.as_slice())?;
     read_order(alloc, &matches)
 }
-

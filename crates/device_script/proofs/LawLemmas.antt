@@ -59,7 +59,7 @@ count_modulo m n first step k =
     let turns = k / (m * n) in
     let product : (low + m * n * turns) * step ≡ low * step + m * (n * (turns * step)) = add-mul low (m * n * turns) step ∙ simp mul_assoc in
     let split : first + k * step ≡ first + low * step + m * (n * (turns * step)) =
-        ap (λ j. first + j * step) (sym (mod-add-div k (m * n))) ∙ ap (λ p. first + p) product ∙ sym (add_assoc first (low * step) (m * (n * (turns * step)))) in
+    ap (λ j. first + j * step) (sym (mod-add-div k (m * n))) ∙ ap (λ p. first + p) product ∙ sym (add_assoc first (low * step) (m * (n * (turns * step)))) in
     sym (ap (λ x. x % m) split ∙ add-mul-mod_self_left (first + low * step) m (n * (turns * step)))
 
 pub counter_given : (size : Size) (first step k : ℕ) → (first + (k % 2 ^ 64) * step) % 2 ^ (8 * byte_count size) ≡ (first + k * step) % 2 ^ (8 * byte_count size)

@@ -1,7 +1,7 @@
 //! What no contract says: that scripts are read, and what the definitions mean, on texts.
 
 use crate::{Script, ScriptDevice, read_script};
-use pan_base::{Request, Size};
+use pan_base::Size;
 use pan_port::{Answer, Device};
 use std::alloc::Global;
 use std::test::Fail;
@@ -201,107 +201,113 @@ fn script_of(alloc: Global, text: &str) -> Result<Script, Fail> {
     Ok(script)
 }
 
-/// Lets the device answer a load or a store.
-fn ask(device: &mut ScriptDevice, request: Request<'_>) -> Answer {
-    match request {
-        Request::Load { size, addr } => device.load(size, addr),
-        Request::Store { size, addr, value } => device.store(size, addr, value),
-        Request::Foreign { .. } => Answer::Stop,
+/// A load, or a store.
+#[derive(Clone, Copy)]
+enum Access {
+    Load(Size, u64),
+    Store(Size, u64, u64),
+}
+
+use Access::{Load, Store};
+
+/// Lets the device answer it.
+fn ask(device: &mut ScriptDevice, access: Access) -> Answer {
+    match access {
+        Load(size, addr) => device.load(size, addr),
+        Store(size, addr, value) => device.store(size, addr, value),
     }
 }
 
-/// A load.
-const fn load(size: Size, addr: u64) -> Request<'static> {
-    Request::Load { size, addr }
-}
+/// Where the window begins.
+const AT: u64 = 0x4000_0000;
 
-/// A store.
-const fn store(size: Size, addr: u64, value: u64) -> Request<'static> {
-    Request::Store { size, addr, value }
-}
+/// A load of the byte there.
+const BYTE: Access = Load(Size::B1, AT);
+
+/// A load of the word behind it.
+const WORD: Access = Load(Size::B4, AT + 4);
+
+/// Scripts, and what their devices answer in turn.
+const EXCHANGES: [(&str, &[(Access, Answer)]); 8] = [
+    (
+        "",
+        &[(BYTE, Answer::Stop), (Store(Size::B1, AT, 0), Answer::Stop)],
+    ),
+    (
+        "register 8 0x40000000 7",
+        &[
+            (BYTE, Answer::Value(7)),
+            (Store(Size::B1, AT, 300), Answer::Done),
+            (BYTE, Answer::Value(300)),
+            (Load(Size::B1, AT + 1), Answer::Stop),
+            (Load(Size::B2, AT), Answer::Stop),
+            (Store(Size::B8, AT, 1), Answer::Stop),
+            (BYTE, Answer::Value(300)),
+        ],
+    ),
+    (
+        "queue 8 0x40000000 1 300",
+        &[
+            (BYTE, Answer::Value(1)),
+            (Store(Size::B1, AT, 1), Answer::Stop),
+            (BYTE, Answer::Value(300)),
+            (BYTE, Answer::Quiet),
+            (BYTE, Answer::Quiet),
+        ],
+    ),
+    (
+        "counter 8 0x40000000 254 1",
+        &[
+            (BYTE, Answer::Value(254)),
+            (BYTE, Answer::Value(255)),
+            (BYTE, Answer::Value(0)),
+            (BYTE, Answer::Value(1)),
+        ],
+    ),
+    (
+        "counter 32 0x40000004 0xffffffff00000001 0xffffffffffffffff",
+        &[
+            (WORD, Answer::Value(1)),
+            (WORD, Answer::Value(0)),
+            (WORD, Answer::Value(0xffff_ffff)),
+        ],
+    ),
+    (
+        "collector 64 0x40000000 2",
+        &[
+            (Store(Size::B8, AT, 1), Answer::Done),
+            (Store(Size::B8, AT, 0), Answer::Done),
+            (Store(Size::B8, AT, 1), Answer::Stop),
+            (Load(Size::B8, AT), Answer::Stop),
+        ],
+    ),
+    (
+        "collector 8 0x40000000 1\nqueue 8 0x40000000 5",
+        &[
+            (Store(Size::B1, AT, 1), Answer::Done),
+            (BYTE, Answer::Value(5)),
+            (Store(Size::B1, AT, 1), Answer::Stop),
+            (BYTE, Answer::Quiet),
+        ],
+    ),
+    (
+        "queue 32 0x40000004 0 1 1\nqueue 8 0x40000000 104 101 121 33\nforeign deliver add 1",
+        &[
+            (WORD, Answer::Value(0)),
+            (WORD, Answer::Value(1)),
+            (BYTE, Answer::Value(104)),
+            (WORD, Answer::Value(1)),
+            (BYTE, Answer::Value(101)),
+        ],
+    ),
+];
 
 #[test]
 fn answers(rt: HostRuntime) -> Result<(), Fail> {
-    let at = 0x4000_0000;
-    let byte = load(Size::B1, at);
-    let word = load(Size::B4, at + 4);
-    let rows: [(&str, &[(Request<'static>, Answer)]); 8] = [
-        (
-            "",
-            &[(byte, Answer::Stop), (store(Size::B1, at, 0), Answer::Stop)],
-        ),
-        (
-            "register 8 0x40000000 7",
-            &[
-                (byte, Answer::Value(7)),
-                (store(Size::B1, at, 300), Answer::Done),
-                (byte, Answer::Value(300)),
-                (load(Size::B1, at + 1), Answer::Stop),
-                (load(Size::B2, at), Answer::Stop),
-                (store(Size::B8, at, 1), Answer::Stop),
-                (byte, Answer::Value(300)),
-            ],
-        ),
-        (
-            "queue 8 0x40000000 1 300",
-            &[
-                (byte, Answer::Value(1)),
-                (store(Size::B1, at, 1), Answer::Stop),
-                (byte, Answer::Value(300)),
-                (byte, Answer::Quiet),
-                (byte, Answer::Quiet),
-            ],
-        ),
-        (
-            "counter 8 0x40000000 254 1",
-            &[
-                (byte, Answer::Value(254)),
-                (byte, Answer::Value(255)),
-                (byte, Answer::Value(0)),
-                (byte, Answer::Value(1)),
-            ],
-        ),
-        (
-            "counter 32 0x40000004 0xffffffff00000001 0xffffffffffffffff",
-            &[
-                (word, Answer::Value(1)),
-                (word, Answer::Value(0)),
-                (word, Answer::Value(0xffff_ffff)),
-            ],
-        ),
-        (
-            "collector 64 0x40000000 2",
-            &[
-                (store(Size::B8, at, 1), Answer::Done),
-                (store(Size::B8, at, 0), Answer::Done),
-                (store(Size::B8, at, 1), Answer::Stop),
-                (load(Size::B8, at), Answer::Stop),
-            ],
-        ),
-        (
-            "collector 8 0x40000000 1\nqueue 8 0x40000000 5",
-            &[
-                (store(Size::B1, at, 1), Answer::Done),
-                (byte, Answer::Value(5)),
-                (store(Size::B1, at, 1), Answer::Stop),
-                (byte, Answer::Quiet),
-            ],
-        ),
-        (
-            "queue 32 0x40000004 0 1 1\nqueue 8 0x40000000 104 101 121 33\nforeign deliver add 1",
-            &[
-                (word, Answer::Value(0)),
-                (word, Answer::Value(1)),
-                (byte, Answer::Value(104)),
-                (word, Answer::Value(1)),
-                (byte, Answer::Value(101)),
-            ],
-        ),
-    ];
-    for (text, exchanges) in rows {
+    for (text, exchanges) in EXCHANGES {
         let mut device = script_of(rt.alloc(), text)?.into_device();
-        for (turn, (request, want)) in exchanges.iter().enumerate() {
-            let answer = ask(&mut device, *request);
+        for (turn, (access, want)) in exchanges.iter().enumerate() {
+            let answer = ask(&mut device, *access);
             assert_eq!(rt; answer, *want, "{text:?}, request {turn}");
         }
     }

@@ -28,7 +28,7 @@ no_error a e f h = elim h [ inl x ↦ cc | inr x ↦ cc ]
 -- an error that is handed on
 pub handed : {A E : Type 0} (r : Result A E) (e : E) → IsErrAnd r (λ f. f ≡ e) → r ≡ Err e
 handed (Ok x) e h = absurd h
-handed (Err f) e h = ap (λ (e : E). Err e) h
+handed {E = E} (Err f) e h = ap (λ (x : E). Err x) h
 
 -- ---- the program of a source
 

@@ -45,4 +45,4 @@ returns-in-Ok-clause-values c =
 pub returns-in-Err-clause-refused : goal.returns-in-Err-clause-refused
 returns-in-Err-clause-refused c = λ is none.
     fault _ _ c.in-Err.error c.in_ok-command.ensures (c.in-Err.ensures.kinds (ap is_simple_and_free c.in_ok-command.ensures ∙ panc_is_free))
-    (c.words_error.ensures.usage (cc)) none
+    (λ memory. let told = c.words_error.ensures.memory memory in cc) none
