@@ -1,11 +1,18 @@
+pub mod Advancing
+pub mod Beginning
+pub mod Begun
+pub mod Equations
 pub mod EvenLayers
+pub mod FewNames
 pub mod FillLemmas
+pub mod FramesLemmas
 pub mod GivingLayers
 pub mod Images
 pub mod Later
 pub mod Lighter
 pub mod LoadLemmas
 pub mod LocalWords
+pub mod Naming
 pub mod NoBound
 pub mod NumberLemmas
 pub mod PlaceLemmas
@@ -20,5 +27,7 @@ pub mod ShiftLemmas
 pub mod Sizes
 pub mod Steps
 pub mod StmtLayers
+pub mod Taking
 pub mod ToldLayers
 pub mod Unfolding
+pub mod Unstopped

@@ -10,3 +10,5 @@ pub mod Machine
 pub mod Going
 pub mod Weight
 pub mod Ahead
+pub mod View
+pub mod Runner
