@@ -2,7 +2,6 @@
 use Rattle.std.proofs.Common.{◌≡◌, ℕ, List, inl, inr, Ok, Err}
 use Rattle.std.specs.Prelude.{◌⊎◌}
 use Rattle.pan_base.specs.Files.{NoneChanged}
-use Rattle.pan_tree.specs.Check.{program_weight}
 use Rattle.pan_tree.specs.declared.program.Program.{Program}
 use Rattle.front_end.specs.Sources.{IsChecked, Unchecked}
 use Rattle.front_end.specs.declared.error.SourceError.{SourceError}
@@ -13,7 +12,8 @@ use Rattle.pan_command.specs.declared.error.BuildError.TheVariants.{Source, NoMe
 use Rattle.pan_command.specs.Outside.{Outside, Holds}
 use Rattle.pan_command.specs.Served.{IsServed, Refuses, source_line}
 use Rattle.pan_command.specs.Compile.{Refused}
-use Rattle.pan_command.specs.Check.{Passed, Unpassed, weight_line}
+use Rattle.pan_command.specs.Check.{Unpassed}
+use Rattle.pan_command.specs.Reading.{IsSource}
 use Rattle.pan_command.proofs.Reasons.{Gives, is_program, starved_so}
 
 -- a reason, where it isn't memory
@@ -55,16 +55,11 @@ module _ (before : Outside) (source bytes : List ℕ) (held : Holds (before.file
     line = line;
   }
 
-  -- it was read to this program
-  pub passed_so : (q : Program) → IsChecked bytes q
-      → ((p : Program) → IsChecked bytes p → Gives {A = Program} wrong.NoMemory (Ok q) (Ok p)) → ((e : SourceError) → Unchecked bytes e → Gives {A = Program} wrong.NoMemory (Ok q) (Err e))
-      → Prints (weight_line (program_weight q)) → Passed Prints before source
-  passed_so q checked passes exact line = record {
-    bytes = bytes;
-    held = held;
-    program = q;
-    checked = checked;
-    only = λ p s. let e = is_program bytes q passes exact p s in cc;
-    accepted = λ e h. no_error q _ _ (exact e h);
-    line = line;
-  }
+-- it was read to this program
+pub source_so : (bytes : List ℕ) (q : Program) → IsChecked bytes q
+    → ((p : Program) → IsChecked bytes p → Gives {A = Program} wrong.NoMemory (Ok q) (Ok p)) → ((e : SourceError) → Unchecked bytes e → Gives {A = Program} wrong.NoMemory (Ok q) (Err e)) → IsSource bytes q
+source_so bytes q checked passes exact = record {
+  checked = checked;
+  only = λ p s. let e = is_program bytes q passes exact p s in cc;
+  accepted = λ e h. no_error q _ _ (exact e h);
+}

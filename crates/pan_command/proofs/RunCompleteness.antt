@@ -1,73 +1,144 @@
--- How a run with lawful words ends where no fault of the outside came.
+-- How `run` ends where no fault of the outside came.
 use Rattle.std.proofs.Common.{◌≡◌, ℕ, List, Some, None, Ok, Err, refl, sym, ap, ◌∙◌, subst, inl, inr}
-use Rattle.std.specs.Prelude.{◌⊎◌, codes}
-use Rattle.pan_base.specs.Events.{Replied, Behaviour, end_of}
+use Rattle.std.specs.Prelude.{◌⊎◌}
+use Rattle.pan_base.specs.Events.{Behaviour, Replied, end_of}
 use Rattle.pan_base.specs.Files.{Files}
+use Rattle.pan_base.specs.Sinks.{Took}
+use Rattle.pan_base.specs.declared.events.End.{End}
 use Rattle.riscv_isa.specs.Image.{ImageOf}
 use Rattle.riscv_isa.specs.Machine.{machine}
 use Rattle.image_file.specs.Faults.{fault_of}
 use Rattle.image_file.specs.Parts.{ImageParts}
+use Rattle.image_file.specs.declared.error.ImageError.{ImageError}
 use Rattle.image_file.proofs.WrittenLaws.{image_reads, same_image}
-use Rattle.reply_file.specs.Replies.{replies_of_file}
+use Rattle.command_words.specs.declared.order.Options.{Options}
+use Rattle.device_script.specs.Memory.{filled}
+use Rattle.device_script.specs.Script.{Content, Refusal, script_of_file}
 use Rattle.pan_command.specs.declared.status.Status.{Status}
 use Rattle.pan_command.specs.declared.status.Status.TheVariants as status
 use Rattle.pan_command.specs.Status.{code, end_code}
-use Rattle.pan_command.specs.Words.{AreLawful}
 use Rattle.pan_command.specs.Outside.{Outside, NoFault}
-use Rattle.pan_command.specs.Run.{RunEnds, RunCases, FileUnread, NoImage, ScriptRefused, ImageRead, ScriptRead, ran_with, behaviour_of, run_memory, run_stack, run_steps}
-use Rattle.pan_command.specs.Command.{Ends}
-use Rattle.pan_command.proofs.Completeness.{same_bytes, not_lacks, one_not_two, other_action, same_names}
+use Rattle.pan_command.specs.Playing.{Plays, Played}
+use Rattle.pan_command.specs.Reading.{ImageRead, ScriptRead, ScriptRefused, script_line}
+use Rattle.pan_command.specs.Run.{RunCases, RunUnread, NoImage, image_goes, image_line}
+use Rattle.pan_command.proofs.Outcomes.{plays_as}
+use Rattle.pan_command.proofs.Told.{same_bytes, not_held, not_unread}
 
--- with these lawful words the call ends as `run` on these names does
-pub runs_so : (before after : Outside) (image script : List ℕ) (words : List (List ℕ)) (s : Status) → AreLawful (codes "run") words image script → Ends words before after s → RunEnds image script before after s
-runs_so before after image script words s lawful (inl p) = absurd ((p.0).no_run image script lawful)
-runs_so before after image script words s lawful (inr (inl p)) = absurd (other_action words image script p.0 p.1 lawful p.2)
-runs_so before after image script words s lawful (inr (inr (inr p))) = absurd (one_not_two (codes "check") (codes "run") words p.0 image script p.1 lawful)
-runs_so before after image script words s lawful (inr (inr (inl p))) =
-    let e = same_names (codes "run") words p.0 p.1 image script p.2 lawful in
-    subst (λ n. RunEnds image n before after s) e.1 (subst (λ n. RunEnds n p.1 before after s) e.0 p.3)
+-- ---- what a file holds is one image, one fault or one script
 
-module _ (before after : Outside) (all : Files) (image script image_bytes script_bytes : List ℕ) (parts : ImageParts) (replies : List Replied)
-    (told : (before.files).files ≡ Some all) (image_there : all image ≡ Some image_bytes) (layout : ImageOf image_bytes parts.code parts.names parts.bound)
-    (script_there : all script ≡ Some script_bytes) (says : replies_of_file script_bytes ≡ Ok replies) (fine : NoFault before after) where
-  not_unread : (Prints : List ℕ → Type 0) (name bytes : List ℕ) → all name ≡ Some bytes → FileUnread Prints before after name → ⊥
-  not_unread Prints name bytes there u = elim u.cause [ inl r ↦ fine.reads r | inr l ↦ not_lacks _ all name bytes told there l ]
+module _ (before : Outside) (all : Files) (told : (before.files).files ≡ Some all) where
+  pub script_is : (script bytes : List ℕ) → all script ≡ Some bytes → (r : ScriptRead before script) → script_of_file bytes ≡ Ok r.script
+  script_is script bytes there r = sym (ap script_of_file (same_bytes _ all script bytes r.bytes told there r.held)) ∙ r.says
 
-  not_faulty : (Prints : List ℕ → Type 0) → NoImage Prints before image → ⊥
-  not_faulty Prints h =
-      let e : h.bytes ≡ image_bytes = same_bytes _ all image image_bytes h.bytes told image_there h.held in
-      let right : fault_of image_bytes ≡ None = (image_reads image_bytes parts.code parts.names parts.bound layout).right in
-      let wrong : fault_of image_bytes ≡ Some h.fault = sym (ap fault_of e) ∙ h.first in
-      cc
+  pub refusal_is : (Prints : List ℕ → Type 0) (script bytes : List ℕ) → all script ≡ Some bytes → (r : ScriptRefused Prints before script) → script_of_file bytes ≡ Err r.refusal
+  refusal_is Prints script bytes there r = sym (ap script_of_file (same_bytes _ all script bytes r.bytes told there r.held)) ∙ r.refused
 
-  not_refused : (Prints : List ℕ → Type 0) → ScriptRefused Prints before script → ⊥
-  not_refused Prints h =
-      let e : h.bytes ≡ script_bytes = same_bytes _ all script script_bytes h.bytes told script_there h.held in
-      let wrong : replies_of_file script_bytes ≡ Err h.refusal = sym (ap replies_of_file e) ∙ h.refused in
-      cc
+  module _ (image bytes : List ℕ) (there : all image ≡ Some bytes) where
+    pub layout_is : (i : ImageRead before image) → ImageOf bytes (i.parts).code (i.parts).names (i.parts).bound
+    layout_is i = subst (λ b. ImageOf b (i.parts).code (i.parts).names (i.parts).bound) (same_bytes _ all image bytes i.bytes told there i.held) i.layout
 
-  same_run : (i : ImageRead before image) (r : ScriptRead before script) → ran_with i r.replies ≡ behaviour_of parts replies
-  same_run i r =
-      let e : i.bytes ≡ image_bytes = same_bytes _ all image image_bytes i.bytes told image_there i.held in
-      let p = same_image image_bytes i.code parts.code i.names parts.names i.bound parts.bound (subst (λ b. ImageOf b i.code i.names i.bound) e i.layout) layout in
-      let f : r.bytes ≡ script_bytes = same_bytes _ all script script_bytes r.bytes told script_there r.held in
-      let said : replies_of_file script_bytes ≡ Ok r.replies = sym (ap replies_of_file f) ∙ r.says in
-      let g : r.replies ≡ replies = cc in
-      ap (λ (c : List ℕ). machine c i.names run_memory run_stack r.replies run_steps) p.0
-      ∙ ap (λ (n : List (List ℕ)). machine parts.code n run_memory run_stack r.replies run_steps) p.1
-      ∙ ap (λ (r : List Replied). machine parts.code parts.names run_memory run_stack r run_steps) g
+    no_fault : (i : ImageRead before image) → fault_of bytes ≡ None
+    no_fault i = (image_reads bytes (i.parts).code (i.parts).names (i.parts).bound (layout_is i)).right
 
-  run_cases : (s : Status) → RunCases image script before after s → (code s ≡ end_code (end_of (behaviour_of parts replies).ending)) ⊎ (code s ≡ 8)
-  run_cases status.Done h = absurd h
-  run_cases status.Usage h = absurd h
-  run_cases status.Unread h = absurd (elim h [ inl u ↦ not_unread _ image image_bytes image_there u | inr p ↦ not_unread _ script script_bytes script_there p.1 ])
-  run_cases status.Refused h = absurd h
-  run_cases status.NoImage h = absurd (not_faulty _ h)
-  run_cases status.NoScript h = absurd (not_refused _ h.1)
-  run_cases status.Unwritten h = absurd h
-  run_cases status.Unput h = absurd (fine.puts h.cause)
-  run_cases status.NoMemory h = inr refl
-  run_cases (status.Ran end) h = inl (sym (ap end_code (sym (ap (λ (b : Behaviour). end_of b.ending) (same_run h.image_read h.script_read)) ∙ h.ends)))
+    fault_is : (Prints : List ℕ → Type 0) (h : NoImage Prints before image) → fault_of bytes ≡ Some h.fault
+    fault_is Prints h = sym (ap fault_of (same_bytes _ all image bytes h.bytes told there h.held)) ∙ h.first
 
-  pub run_completes : (words : List (List ℕ)) (s : Status) → AreLawful (codes "run") words image script → Ends words before after s → (code s ≡ end_code (end_of (behaviour_of parts replies).ending)) ⊎ (code s ≡ 8)
-  run_completes words s lawful h = run_cases s (runs_so before after image script words s lawful h).1
+-- ---- how it ends
+
+-- how `run` ends with this status where no put failed
+data Found (options : Options) (before after : Outside) (image script : List ℕ) (n : ℕ) : Type 0 where
+  IsStarved : (is : n ≡ 8) → Found options before after image script n
+  IsUnread : (is : n ≡ 3) (h : RunUnread (Took before.out after.out) before after image script) → Found options before after image script n
+  IsNoImage : (is : n ≡ 5) (h : NoImage (Took before.out after.out) before image) → Found options before after image script n
+  IsRefused : (is : n ≡ 6) (i : ImageRead before image) (h : ScriptRefused (Took before.out after.out) before script) → Found options before after image script n
+  IsRan : (end : End) (is : n ≡ end_code end) (i : ImageRead before image) (r : ScriptRead before script)
+      (h : Played (Took before.out after.out) (image_goes i.parts r.script options) r.script options.steps end) → Found options before after image script n
+
+pub found : (options : Options) (before after : Outside) (image script : List ℕ) (s : Status) → NoFault before after → RunCases options image script before after s → Found options before after image script (code s)
+found options before after image script status.Done fine h = absurd h
+found options before after image script status.Usage fine h = absurd h
+found options before after image script status.Unread fine h = IsUnread refl h
+found options before after image script status.Refused fine h = absurd h
+found options before after image script status.NoImage fine h = IsNoImage refl h
+found options before after image script status.NoScript fine h = IsRefused refl h.0 h.1
+found options before after image script status.Unwritten fine h = absurd h
+found options before after image script status.Unput fine h = absurd (fine.puts h.cause)
+found options before after image script status.NoMemory fine h = IsStarved refl
+found options before after image script (status.Ran end) fine h = IsRan end refl h.0 h.1 h.2
+
+module _ (options : Options) (before after : Outside) (all : Files) (image script : List ℕ) (n : ℕ) (told : (before.files).files ≡ Some all) (fine : NoFault before after) where
+  pub missing : all image ≡ None → Found options before after image script n → (n ≡ 3) ⊎ (n ≡ 8)
+  missing gone (IsStarved is) = inr is
+  missing gone (IsUnread is h) = inl is
+  missing gone (IsNoImage is h) = absurd (not_held _ all image h.bytes told gone h.held)
+  missing gone (IsRefused is i h) = absurd (not_held _ all image i.bytes told gone i.held)
+  missing gone (IsRan end is i r h) = absurd (not_held _ all image i.bytes told gone i.held)
+
+  module _ (bytes : List ℕ) (there : all image ≡ Some bytes) where
+    faulty : (fault : ImageError) → fault_of bytes ≡ Some fault → (i : ImageRead before image) → ⊥
+    faulty fault wrong i = let right = no_fault before all told image bytes there i in cc
+
+    pub no_image : (fault : ImageError) → fault_of bytes ≡ Some fault → Found options before after image script n → ((n ≡ 5) × Took before.out after.out (image_line fault)) ⊎ (n ≡ 8)
+    no_image fault wrong (IsStarved is) = inr is
+    no_image fault wrong (IsUnread is h) = absurd (elim h [ inl u ↦ not_unread _ before after all image bytes told there fine u | inr p ↦ faulty fault wrong p.0 ])
+    no_image fault wrong (IsNoImage is h) =
+        let e = fault_is before all told image bytes there _ h in
+        let same : h.fault ≡ fault = cc in
+        inl (is, subst (λ f. Took before.out after.out (image_line f)) same h.line)
+    no_image fault wrong (IsRefused is i h) = absurd (faulty fault wrong i)
+    no_image fault wrong (IsRan end is i r h) = absurd (faulty fault wrong i)
+
+    module _ (parts : ImageParts) (layout : ImageOf bytes parts.code parts.names parts.bound) where
+      not_faulty : NoImage (Took before.out after.out) before image → ⊥
+      not_faulty h =
+          let right : fault_of bytes ≡ None = (image_reads bytes parts.code parts.names parts.bound layout).right in
+          let wrong = fault_is before all told image bytes there _ h in
+          cc
+
+      pub script_missing : all script ≡ None → Found options before after image script n → (n ≡ 3) ⊎ (n ≡ 8)
+      script_missing gone (IsStarved is) = inr is
+      script_missing gone (IsUnread is h) = inl is
+      script_missing gone (IsNoImage is h) = absurd (not_faulty h)
+      script_missing gone (IsRefused is i h) = absurd (not_held _ all script h.bytes told gone h.held)
+      script_missing gone (IsRan end is i r h) = absurd (not_held _ all script r.bytes told gone r.held)
+
+      module _ (script_bytes : List ℕ) (script_there : all script ≡ Some script_bytes) where
+        not_unread_here : RunUnread (Took before.out after.out) before after image script → ⊥
+        not_unread_here h = elim h [
+          | inl u ↦ not_unread _ before after all image bytes told there fine u
+          | inr p ↦ not_unread _ before after all script script_bytes told script_there fine p.1
+        ]
+
+        pub script_refused : (refusal : Refusal) → script_of_file script_bytes ≡ Err refusal → Found options before after image script n
+            → ((n ≡ 6) × Took before.out after.out (script_line refusal)) ⊎ (n ≡ 8)
+        script_refused refusal wrong (IsStarved is) = inr is
+        script_refused refusal wrong (IsUnread is h) = absurd (not_unread_here h)
+        script_refused refusal wrong (IsNoImage is h) = absurd (not_faulty h)
+        script_refused refusal wrong (IsRefused is i h) =
+            let e = refusal_is before all told _ script script_bytes script_there h in
+            let same : h.refusal ≡ refusal = cc in
+            inl (is, subst (λ r. Took before.out after.out (script_line r)) same h.line)
+        script_refused refusal wrong (IsRan end is i r h) = let e = script_is before all told script script_bytes script_there r in absurd (cc)
+
+        module _ (content : Content) (says : script_of_file script_bytes ≡ Ok content) where
+          same_script : (r : ScriptRead before script) → r.script ≡ content
+          same_script r = let e = script_is before all told script script_bytes script_there r in cc
+
+          not_refused : ScriptRefused (Took before.out after.out) before script → ⊥
+          not_refused h = let e = refusal_is before all told _ script script_bytes script_there h in cc
+
+          same_goes : (i : ImageRead before image) (replies : List Replied) (k : ℕ) → image_goes i.parts content options replies k ≡ image_goes parts content options replies k
+          same_goes i replies k =
+              let p = same_image bytes (i.parts).code parts.code (i.parts).names parts.names (i.parts).bound parts.bound (layout_is before all told image bytes there i) layout in
+              ap (λ (c : List ℕ). machine c (i.parts).names (filled content.pieces options.local) options.stack replies k) p.0
+              ∙ ap (λ (names : List (List ℕ)). machine parts.code names (filled content.pieces options.local) options.stack replies k) p.1
+
+          pub completes : Found options before after image script n → ((b : Behaviour) × Plays (image_goes parts content options) content options.steps b × (n ≡ end_code (end_of b.ending))) ⊎ (n ≡ 8)
+          completes (IsStarved is) = inr is
+          completes (IsUnread is h) = absurd (not_unread_here h)
+          completes (IsNoImage is h) = absurd (not_faulty h)
+          completes (IsRefused is i h) = absurd (not_refused h)
+          completes (IsRan end is i r h) =
+              let plays : Plays (image_goes i.parts content options) content options.steps h.run =
+              subst (λ (c : Content). Plays (image_goes i.parts c options) c options.steps h.run) (same_script r) h.plays in
+              inl (h.run, plays_as (image_goes i.parts content options) (image_goes parts content options) content options.steps (same_goes i) h.run plays, is ∙ ap end_code (sym h.ends))

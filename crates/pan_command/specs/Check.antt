@@ -13,7 +13,7 @@ use Rattle.front_end.specs.declared.error.SourceError.{SourceError}
 use Rattle.pan_command.specs.declared.error.BuildError.TheVariants.{Source}
 use Rattle.pan_command.specs.Served.{source_line}
 use Rattle.pan_command.specs.Outside.{Outside, Holds}
-use Rattle.pan_command.specs.Run.{FileUnread}
+use Rattle.pan_command.specs.Reading.{FileUnread, SourceRead}
 
 -- the line of a weight
 abbrev pub weight_line : ℕ → List ℕ
@@ -21,17 +21,12 @@ weight_line w = codes "ok " ++ decimal w ++ codes "\n"
 
 -- In what follows `Prints line` says how far the line was put: all of it, or a prefix.
 
--- the source's bytes are a source of one program, which keeps every rule and has this weight
+-- the bytes are a source of a program that keeps every rule, with its weight
 pub record Passed (Prints : List ℕ → Type 0) (before : Outside) (source : List ℕ) : Type 0 where
-  pub bytes : List ℕ
-  pub held : Holds (before.files).files source bytes
-  pub program : Program
-  pub checked : IsChecked bytes program
-  pub only : (other : Program) → IsChecked bytes other → other ≡ program
-  pub accepted : (e : SourceError) → ¬ Unchecked bytes e
-  pub line : Prints (weight_line (program_weight program))
+  pub read : SourceRead before source
+  pub line : Prints (weight_line (program_weight read.program))
 
--- the source's bytes are a source of no such program, for this reason and no other
+-- the bytes are a source of no such program, for this reason and no other
 pub record Unpassed (Prints : List ℕ → Type 0) (before : Outside) (source : List ℕ) : Type 0 where
   pub bytes : List ℕ
   pub held : Holds (before.files).files source bytes

@@ -1,12 +1,13 @@
 pub mod Status
 pub mod Inner
 pub mod Served
-pub mod Words
 pub mod Outside
 pub mod Compile
-pub mod Run
+pub mod Reading
+pub mod Playing
 pub mod Check
-pub mod Going
+pub mod Run
+pub mod Meaning
 pub mod Loading
 pub mod Command
 pub mod Sample

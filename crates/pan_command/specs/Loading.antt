@@ -1,17 +1,18 @@
--- What the reading of a file, of an image and of replies leaves; no file changes.
-use Rattle.std.specs.Prelude.{◌≡◌, ◌⊎◌, ◌≤◌, ℕ, List, [], map, Result, Ok, Err}
+-- What the reading of a file, of an image, of a source and of a script leaves; no file changes.
+use Rattle.std.specs.Prelude.{◌≡◌, ◌⊎◌, ◌≤◌, ℕ, List, [], Result, Ok, Err}
 use Rattle.pan_base.specs.Causes.{Rose}
 use Rattle.pan_base.specs.Files.{NoneChanged}
 use Rattle.pan_base.specs.Sinks.{Took, TookFront}
+use Rattle.pan_tree.specs.declared.program.Program.{Program}
 use Rattle.image_file.specs.Parts.{ImageParts}
 use Rattle.riscv_isa.specs.Image.{ImageOf}
-use Rattle.pan_port.specs.declared.replies.OwnReply.{OwnReply}
-use Rattle.reply_file.specs.Told.{own_replied}
-use Rattle.reply_file.specs.Replies.{replies_of_file}
+use Rattle.device_script.specs.Script.{Content, script_of_file}
 use Rattle.pan_command.specs.declared.status.Status.{Status}
 use Rattle.pan_command.specs.declared.status.Status.TheVariants as status
 use Rattle.pan_command.specs.Outside.{Outside, Holds}
-use Rattle.pan_command.specs.Run.{FileUnread, NoImage, ScriptRefused}
+use Rattle.pan_command.specs.Check.{Unpassed}
+use Rattle.pan_command.specs.Reading.{FileUnread, IsSource, ScriptRefused}
+use Rattle.pan_command.specs.Run.{NoImage}
 
 -- nothing was put, no write failed, and the count of failed reads didn't fall
 pub record IsQuiet (before after : Outside) : Type 0 where
@@ -45,10 +46,25 @@ ImageCases name before after (Err _) = ⊥
 abbrev pub ReadsImage : List ℕ → Outside → Outside → Result ImageParts Status → Type 0
 ReadsImage name before after r = NoneChanged (before.files).files (after.files).files × ImageCases name before after r
 
--- the replies of a file, or why there are none
-abbrev pub ScriptCases : List ℕ → Outside → Outside → Result (List OwnReply) Status → Type 0
-ScriptCases name before after (Ok replies) =
-    (bytes : List ℕ) × Holds (before.files).files name bytes × (replies_of_file bytes ≡ Ok (map own_replied replies)) × IsQuiet before after
+-- the program of a source file, which keeps every rule, or why there is none
+abbrev pub ProgramCases : List ℕ → Outside → Outside → Result Program Status → Type 0
+ProgramCases name before after (Ok program) =
+    (bytes : List ℕ) × Holds (before.files).files name bytes × IsSource bytes program × IsQuiet before after
+ProgramCases name before after (Err status.Unread) = FileUnread (Took before.out after.out) before after name
+ProgramCases name before after (Err status.Refused) = Unpassed (Took before.out after.out) before name
+ProgramCases name before after (Err status.Unput) =
+    Rose (before.out).faults (after.out).faults
+    × (FileUnread (TookFront before.out after.out) before after name ⊎ Unpassed (TookFront before.out after.out) before name)
+ProgramCases name before after (Err status.NoMemory) = Took before.out after.out []
+ProgramCases name before after (Err _) = ⊥
+
+abbrev pub ReadsProgram : List ℕ → Outside → Outside → Result Program Status → Type 0
+ReadsProgram name before after r = NoneChanged (before.files).files (after.files).files × ProgramCases name before after r
+
+-- the script of a file, or why there is none
+abbrev pub ScriptCases : List ℕ → Outside → Outside → Result Content Status → Type 0
+ScriptCases name before after (Ok script) =
+    (bytes : List ℕ) × Holds (before.files).files name bytes × (script_of_file bytes ≡ Ok script) × IsQuiet before after
 ScriptCases name before after (Err status.Unread) = FileUnread (Took before.out after.out) before after name
 ScriptCases name before after (Err status.NoScript) = ScriptRefused (Took before.out after.out) before name
 ScriptCases name before after (Err status.Unput) =
@@ -57,5 +73,5 @@ ScriptCases name before after (Err status.Unput) =
 ScriptCases name before after (Err status.NoMemory) = Took before.out after.out []
 ScriptCases name before after (Err _) = ⊥
 
-abbrev pub ReadsScript : List ℕ → Outside → Outside → Result (List OwnReply) Status → Type 0
+abbrev pub ReadsScript : List ℕ → Outside → Outside → Result Content Status → Type 0
 ReadsScript name before after r = NoneChanged (before.files).files (after.files).files × ScriptCases name before after r

@@ -3,11 +3,9 @@
 ghost use Rattle.pan_command.specs.Outside.{outside};
 ghost use Rattle.pan_command.specs.Check.{CheckEnds};
 
-use crate::error::BuildError;
-use crate::lines::{put_source_line, put_weight_line};
-use crate::loading::read_file;
+use crate::lines::put_weight_line;
+use crate::loading::load_program;
 use crate::status::Status;
-use front_end::{SourceError, read_program};
 use pan_base::{Sink, SinkFault, Workspace};
 use std::alloc::Global;
 
@@ -20,19 +18,12 @@ pub fn check<W: Workspace, O: Sink>(
 ) -> Status
     ensures { CheckEnds source.now (outside (W.state files.old) (O.state out.old)) (outside (W.state files.new) (O.state out.new)) result }
 {
-    let bytes = match read_file(alloc, source, files, out) {
-        Ok(bytes) => bytes,
+    let program = match load_program(alloc, source, files, out) {
+        Ok(program) => program,
         Err(status) => return status,
     };
-    match read_program(alloc, bytes.as_slice()) {
-        Ok(checked) => match put_weight_line(out, checked.weight()) {
-            Ok(()) => Status::Done,
-            Err(SinkFault) => Status::Unput,
-        },
-        Err(SourceError::NoMemory) => Status::NoMemory,
-        Err(error) => match put_source_line(out, BuildError::Source(error)) {
-            Ok(()) => Status::Refused,
-            Err(SinkFault) => Status::Unput,
-        },
+    match put_weight_line(out, program.weight()) {
+        Ok(()) => Status::Done,
+        Err(SinkFault) => Status::Unput,
     }
 }

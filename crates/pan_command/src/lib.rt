@@ -4,10 +4,13 @@
 mod building;
 mod checking;
 mod command;
+mod compiling;
 mod error;
 mod laws;
 mod lines;
 mod loading;
+mod meaning;
+mod playing;
 mod running;
 mod status;
 #[cfg(test)]

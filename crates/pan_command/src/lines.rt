@@ -4,14 +4,15 @@ ghost use Rattle.std.specs.Prelude.{◌≡◌, ◌++◌, codes, ◌≢◌};
 ghost use Rattle.pan_base.specs.Causes.{HasCause};
 ghost use Rattle.pan_base.specs.Sinks.{PutsAll};
 ghost use Rattle.pan_command.specs.Check.{weight_line};
-ghost use Rattle.pan_command.specs.Run.{field_text, cause_text, image_line, script_line};
+ghost use Rattle.pan_command.specs.Reading.{cause_text, script_line};
+ghost use Rattle.pan_command.specs.Run.{field_text, image_line};
 ghost use Rattle.pan_command.specs.Served.{caused, source_line};
 
 use crate::error::BuildError;
 use image_file::{FieldName, ImageError};
 use itoa::Buffer;
 use pan_base::{Sink, SinkFault, put_all, put_each};
-use reply_file::Cause;
+use device_script::Cause;
 
 /// Puts a word, a name and a line feed.
 pub fn put_line<'x, O: Sink>(out: &mut O, word: &'x str, name: &'x str) -> Result<(), SinkFault>
@@ -39,7 +40,14 @@ fn name_of_cause(cause: Cause) -> &'static str
     match cause {
         Cause::Word => "Word",
         Cause::Count => "Count",
+        Cause::Size => "Size",
         Cause::Number => "Number",
+        Cause::Address => "Address",
+        Cause::Name => "Name",
+        Cause::Hex => "Hex",
+        Cause::Kind => "Kind",
+        Cause::Range => "Range",
+        Cause::Twice => "Twice",
     }
 }
 
@@ -59,7 +67,7 @@ pub fn put_image_line<O: Sink>(out: &mut O, fault: ImageError) -> Result<(), Sin
     }
 }
 
-/// Puts the line of a refused reply file.
+/// Puts the line of a refused script.
 pub fn put_script_line<O: Sink>(out: &mut O, line: u64, cause: Cause) -> Result<(), SinkFault>
     ensures took { PutsAll (O.state out.old) (O.state out.new) result (script_line (record { line = line; cause = cause })) }
     ensures cause { HasCause (O.state out.old).faults (O.state out.new).faults result }

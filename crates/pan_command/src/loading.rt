@@ -1,15 +1,17 @@
-//! Reads the files of a run: its image and its replies.
+//! Reads the files of an action: sources, images and scripts.
 
 ghost use Rattle.std.specs.Prelude.{◌≡◌};
 ghost use Rattle.pan_command.specs.Outside.{outside};
-ghost use Rattle.pan_command.specs.Loading.{ReadsFile, ReadsImage, ReadsScript};
+ghost use Rattle.pan_command.specs.Loading.{ReadsFile, ReadsImage, ReadsProgram, ReadsScript};
 
-use crate::lines::{put_image_line, put_line, put_script_line};
+use crate::error::BuildError;
+use crate::lines::{put_image_line, put_line, put_script_line, put_source_line};
 use crate::status::Status;
+use device_script::{Script, ScriptError, read_script};
+use front_end::{SourceError, read_program};
 use image_file::{Image, ImageError, read_image};
-use pan_base::{Blob, FileError, List, Sink, SinkFault, Workspace};
-use pan_port::OwnReply;
-use reply_file::{ReplyFileError, read_replies};
+use pan_base::{Blob, FileError, Sink, SinkFault, Workspace};
+use pan_shapes::Checked;
 use std::alloc::Global;
 
 /// The bytes of a file. Where it can't be read, `read NAME` is put.
@@ -54,23 +56,46 @@ pub fn load_image<W: Workspace, O: Sink>(
     }
 }
 
-/// The replies of a reply file. Where it is refused, the line that says why is put.
-pub fn load_replies<W: Workspace, O: Sink>(
+/// The program of a source file. Where there is none, the line that says why is put.
+pub fn load_program<W: Workspace, O: Sink>(
     alloc: Global,
     name: &str,
     files: &mut W,
     out: &mut O,
-) -> Result<List<OwnReply>, Status>
+) -> Result<Checked, Status>
+    ensures { ReadsProgram name.now (outside (W.state files.old) (O.state out.old)) (outside (W.state files.new) (O.state out.new)) result }
+{
+    let bytes = match read_file(alloc, name, files, out) {
+        Ok(bytes) => bytes,
+        Err(status) => return Err(status),
+    };
+    match read_program(alloc, bytes.as_slice()) {
+        Ok(program) => Ok(program),
+        Err(SourceError::NoMemory) => Err(Status::NoMemory),
+        Err(error) => match put_source_line(out, BuildError::Source(error)) {
+            Ok(()) => Err(Status::Refused),
+            Err(SinkFault) => Err(Status::Unput),
+        },
+    }
+}
+
+/// The script of a file. Where it is refused, the line that says why is put.
+pub fn load_script<W: Workspace, O: Sink>(
+    alloc: Global,
+    name: &str,
+    files: &mut W,
+    out: &mut O,
+) -> Result<Script, Status>
     ensures { ReadsScript name.now (outside (W.state files.old) (O.state out.old)) (outside (W.state files.new) (O.state out.new)) result }
 {
     let bytes = match read_file(alloc, name, files, out) {
         Ok(bytes) => bytes,
         Err(status) => return Err(status),
     };
-    match read_replies(alloc, bytes.as_slice()) {
-        Ok(replies) => Ok(replies),
-        Err(ReplyFileError::NoMemory) => Err(Status::NoMemory),
-        Err(ReplyFileError::Line(line, cause)) => match put_script_line(out, line, cause) {
+    match read_script(alloc, bytes.as_slice()) {
+        Ok(script) => Ok(script),
+        Err(ScriptError::NoMemory) => Err(Status::NoMemory),
+        Err(ScriptError::Line(line, cause)) => match put_script_line(out, line, cause) {
             Ok(()) => Err(Status::NoScript),
             Err(SinkFault) => Err(Status::Unput),
         },

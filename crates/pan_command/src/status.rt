@@ -18,7 +18,7 @@ pub enum Status {
     Refused,
     /// The image's bytes are no image.
     NoImage,
-    /// The reply file is refused.
+    /// The script is refused.
     NoScript,
     /// A file could not be written.
     Unwritten,

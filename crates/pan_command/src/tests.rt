@@ -7,15 +7,6 @@ use std::test::Fail;
 
 const FIRST: &str = "fun main() { !st64 0x40000000, 2 + 3; return 7; }";
 
-/// The bytes of a file, or `none` where there is none.
-fn bytes_of(alloc: Global, files: &mut MemFiles, name: &str) -> Result<Blob, NoMemory> {
-    match files.read(alloc, name) {
-        Ok(bytes) => Ok(bytes),
-        Err(FileError::Missing | FileError::Fault) => Blob::from_slice(alloc, b"none"),
-        Err(FileError::NoMemory) => Err(NoMemory),
-    }
-}
-
 /// The words of a line, parted by single spaces.
 fn words_of(alloc: Global, line: &str) -> Result<List<Text>, NoMemory> {
     let mut words = List::new(alloc);
@@ -25,22 +16,118 @@ fn words_of(alloc: Global, line: &str) -> Result<List<Text>, NoMemory> {
     Ok(words)
 }
 
-/// Files with `a.pan`, and the calls that are to fail.
+/// Files with `a.pan`, `a.img` and `s.txt`, and the calls that are to fail.
 fn files_with(
     alloc: Global,
-    source: &[u8],
-    failing: Option<Failing>,
+    source: &str,
+    image: &[u8],
+    script: &str,
+    failing: List<Failing>,
 ) -> Result<MemFiles, NoMemory> {
     let mut files = List::new(alloc);
-    let name = Text::from_str(alloc, "a.pan")?;
-    files.push((name, Blob::from_slice(alloc, source)?))?;
-    let old = Text::from_str(alloc, "a.img")?;
-    files.push((old, Blob::from_slice(alloc, b"old")?))?;
-    let mut calls = List::new(alloc);
-    if let Some(failing) = failing {
-        calls.push(failing)?;
+    let source_name = Text::from_str(alloc, "a.pan")?;
+    files.push((source_name, Blob::from_slice(alloc, source.as_bytes())?))?;
+    let image_name = Text::from_str(alloc, "a.img")?;
+    files.push((image_name, Blob::from_slice(alloc, image)?))?;
+    let script_name = Text::from_str(alloc, "s.txt")?;
+    files.push((script_name, Blob::from_slice(alloc, script.as_bytes())?))?;
+    MemFiles::new(alloc, files, failing)
+}
+
+/// What the words of a line put into so much room, over these files, and the status.
+fn ran(
+    alloc: Global,
+    line: &str,
+    files: &mut MemFiles,
+    room: usize,
+) -> Result<(MemSink, u8), NoMemory> {
+    let words = words_of(alloc, line)?;
+    let mut out = MemSink::new(alloc, room, List::new(alloc))?;
+    let status = panc(alloc, words.as_slice(), files, &mut out);
+    Ok((out, status))
+}
+
+/// The bytes of `a.img`, or `none` where there is none.
+fn image_in(alloc: Global, files: &mut MemFiles) -> Result<Blob, NoMemory> {
+    match files.read(alloc, "a.img") {
+        Ok(bytes) => Ok(bytes),
+        Err(FileError::Missing | FileError::Fault) => Blob::from_slice(alloc, b"none"),
+        Err(FileError::NoMemory) => Err(NoMemory),
     }
-    MemFiles::new(alloc, files, calls)
+}
+
+#[test]
+fn compiles_and_checks(rt: HostRuntime) -> Result<(), Fail> {
+    let alloc = rt.alloc();
+    for (line, source, text, status) in [
+        ("compile a.pan a.img", FIRST, "bound none\n", 0),
+        (
+            "compile a.pan a.img",
+            "fun main() { return 7; }",
+            "bound none\n",
+            0,
+        ),
+        (
+            "compile a.pan a.img --steps=5 --stack 0x20",
+            "// a store\nfun 1 main() { !st64 (0x40000000), ((2) + 3); /* and */ return (7); }",
+            "bound none\n",
+            0,
+        ),
+        (
+            "compile a.pan a.img",
+            "fun main() { return 1 - 1; }",
+            "0 Unsupported\n",
+            4,
+        ),
+        ("compile a.pan a.img", "", "0 NoMain\n", 4),
+        (
+            "compile a.pan a.img",
+            "fun main() { return 18446744073709551616; }",
+            "20 BadNumber\n",
+            4,
+        ),
+        ("compile a.pan a.img", "/* x", "0 OpenComment\n", 4),
+        (
+            "compile a.pan a.img",
+            "fun main() { skip; return y; }",
+            "26 UnknownName\n",
+            4,
+        ),
+        ("compile b.pan a.img", FIRST, "read b.pan\n", 3),
+        ("check a.pan", FIRST, "ok 23\n", 0),
+        (
+            "check a.pan",
+            "fun main() { return $; }",
+            "20 BadByte\n",
+            4,
+        ),
+        (
+            "check a.pan",
+            "fun main() { return 1 +",
+            "23 Syntax\n",
+            4,
+        ),
+        (
+            "check a.pan",
+            "fun main() { return 1 + (y); }",
+            "25 UnknownName\n",
+            4,
+        ),
+        ("check nosuch.pan", FIRST, "read nosuch.pan\n", 3),
+        ("", FIRST, "usage\n", 2),
+        ("compile a.pan", FIRST, "usage\n", 2),
+        ("check a.pan a.img", FIRST, "usage\n", 2),
+        ("run a.img s.txt --stack 24", FIRST, "usage\n", 2),
+        ("selftest 0", FIRST, "usage\n", 2),
+    ] {
+        let mut files = files_with(alloc, source, b"old", "", List::new(alloc))?;
+        let (out, ended) = ran(alloc, line, &mut files, 100)?;
+        assert_eq!(rt; out.bytes(), text.as_bytes(), "{line}: {source}");
+        assert_eq!(rt; ended, status, "{line}: {source}");
+        let image = image_in(alloc, &mut files)?;
+        assert_eq!(rt; image.as_slice() == b"old", text != "bound none\n", "{line}: {source}");
+    }
+    Ok(())
 }
 
 /// The image of the first source: 32 bytes of header, and the code of
@@ -52,262 +139,193 @@ const FIRST_IMAGE: [u8; 64] = [
     0x08, 0x00, 0x00, 0x73, 0x00, 0x00, 0x00,
 ];
 
+const STORED: &str = "st64 0x0000000040000000 0x0000000000000005\nexit 0x0000000000000007\n";
+
+/// The image is written, and runs over a script as its source means.
 #[test]
-fn answers(rt: HostRuntime) -> Result<(), Fail> {
+fn image_and_source(rt: HostRuntime) -> Result<(), Fail> {
     let alloc = rt.alloc();
-    for (line, source, text, status) in [
-        ("compile a.pan a.img", FIRST, "bound none\n", 0),
-        (
-            "compile a.pan a.img",
-            "fun main() { return 7; }",
-            "bound none\n",
-            0,
-        ),
-        (
-            "compile a.pan a.img",
-            "fun main() { return 1 - 1; }",
-            "0 Unsupported\n",
-            4,
-        ),
-        ("compile a.pan a.img", "", "0 NoMain\n", 4),
-        ("compile a.pan", FIRST, "usage\n", 2),
-        ("compile a.pan -a.img", FIRST, "usage\n", 2),
-        ("check a.pan", FIRST, "ok 23\n", 0),
-        (
-            "check a.pan",
-            "fun main() { return $; }",
-            "20 BadByte\n",
-            4,
-        ),
-        (
-            "check a.pan",
-            "fun main() { return 1 + ; }",
-            "24 Syntax\n",
-            4,
-        ),
-        (
-            "check a.pan",
-            "fun main() { return 1 + (y); }",
-            "25 UnknownName\n",
-            4,
-        ),
-        ("check", FIRST, "usage\n", 2),
-        ("check -a.pan", FIRST, "usage\n", 2),
-        ("check a.pan a.img", FIRST, "usage\n", 2),
-        ("weigh a.pan", FIRST, "usage\n", 2),
-        ("", FIRST, "usage\n", 2),
-        ("compile b.pan a.img", FIRST, "read b.pan\n", 3),
-        ("check b.pan", FIRST, "read b.pan\n", 3),
+    for (script, text, status) in [
+        ("collector 64 0x40000000 1", STORED, 0),
+        ("register 64 0x40000000 0\n# kept\n", STORED, 0),
+        ("collector 64 0x40000000 0", "stopped\n", 12),
+        ("collector 32 0x40000000 1", "stopped\n", 12),
     ] {
-        let words = words_of(alloc, line)?;
-        let mut files = files_with(alloc, source.as_bytes(), None)?;
-        let mut out = MemSink::new(alloc, 100, List::new(alloc))?;
-        assert_eq!(rt;
-            panc(alloc, words.as_slice(), &mut files, &mut out),
-            status,
-            "{line}: {source}"
-        );
-        assert_eq!(rt; out.bytes(), text.as_bytes(), "{line}: {source}");
-        if status != 0 {
-            let old: &[u8] = b"old";
-            assert_eq!(rt;
-                bytes_of(alloc, &mut files, "a.img")?.as_slice(),
-                old,
-                "{line}: {source}"
-            );
+        let mut files = files_with(alloc, FIRST, b"old", script, List::new(alloc))?;
+        let (_, compiled) = ran(alloc, "compile a.pan a.img", &mut files, 100)?;
+        assert_eq!(rt; compiled, 0);
+        let image: &[u8] = &FIRST_IMAGE;
+        assert_eq!(rt; image_in(alloc, &mut files)?.as_slice(), image);
+        for line in ["run a.img s.txt", "meaning a.pan s.txt"] {
+            let (out, ended) = ran(alloc, line, &mut files, 100)?;
+            assert_eq!(rt; out.bytes(), text.as_bytes(), "{line}: {script}");
+            assert_eq!(rt; ended, status, "{line}: {script}");
         }
     }
     Ok(())
 }
 
-/// What `compile` prints of a source, and its status.
-fn compiled(alloc: Global, source: &str) -> Result<(u8, Blob), NoMemory> {
-    let words = words_of(alloc, "compile a.pan a.img")?;
-    let mut files = files_with(alloc, source.as_bytes(), None)?;
-    let mut out = MemSink::new(alloc, 100, List::new(alloc))?;
-    let status = panc(alloc, words.as_slice(), &mut files, &mut out);
-    Ok((status, Blob::from_slice(alloc, out.bytes())?))
-}
-
-#[test]
-fn refuses_sources(rt: HostRuntime) -> Result<(), Fail> {
-    for (source, text) in [
-        (
-            "fun main() { return 18446744073709551616; }",
-            "20 BadNumber\n",
-        ),
-        ("fun main() { return $; }", "20 BadByte\n"),
-        ("/* x", "0 OpenComment\n"),
-        ("fun main() { return 1 + ; }", "24 Syntax\n"),
-        ("fun main() { return 1 +", "23 Syntax\n"),
-        ("fun main() { skip; return 1; }", "0 Unsupported\n"),
-        ("fun main() { skip; return y; }", "26 UnknownName\n"),
-    ] {
-        let (status, line) = compiled(rt.alloc(), source)?;
-        assert_eq!(rt; status, 4, "{source}");
-        assert_eq!(rt; line.as_slice(), text.as_bytes(), "{source}");
-    }
-    Ok(())
-}
-
-/// Comments, and parentheses that make no node, don't matter.
-#[test]
-fn reads_trees(rt: HostRuntime) -> Result<(), Fail> {
-    let source =
-        "// a store\nfun 1 main() { !st64 (0x40000000), ((2) + 3); /* and */ return (7); }";
-    let (status, line) = compiled(rt.alloc(), source)?;
-    assert_eq!(rt; status, 0);
-    assert_eq!(rt; line.as_slice(), b"bound none\n".as_slice());
-    Ok(())
-}
-
-#[test]
-fn writes_the_image(rt: HostRuntime) -> Result<(), Fail> {
-    let alloc = rt.alloc();
-    let words = words_of(alloc, "compile a.pan a.img")?;
-    let mut files = files_with(alloc, FIRST.as_bytes(), None)?;
-    let mut out = MemSink::new(alloc, 100, List::new(alloc))?;
-    assert_eq!(rt; panc(alloc, words.as_slice(), &mut files, &mut out), 0);
-    let image: &[u8] = &FIRST_IMAGE;
-    assert_eq!(rt; bytes_of(alloc, &mut files, "a.img")?.as_slice(), image);
-    assert_eq!(rt;
-        bytes_of(alloc, &mut files, "a.pan")?.as_slice(),
-        FIRST.as_bytes()
-    );
-    Ok(())
-}
-
+/// Faults of files, and lines that can't be put, of which a prefix stays.
 #[test]
 fn meets_faults(rt: HostRuntime) -> Result<(), Fail> {
     let alloc = rt.alloc();
-    let words = words_of(alloc, "compile a.pan a.img")?;
-    let fault = |call: u64, keep: Option<u64>| Some(Failing { call, keep });
-    for (failing, text, image) in [
-        (fault(0, None), "read a.pan\n", "old"),
-        (fault(1, None), "write a.img\n", "old"),
-        (fault(1, Some(2)), "write a.img\n", "PN"),
+    for (line, call, keep, room, text, status, image) in [
+        ("compile a.pan a.img", 0, None, 100, "read a.pan\n", 3, "old"),
+        ("compile a.pan a.img", 1, None, 100, "write a.img\n", 7, "old"),
+        ("compile a.pan a.img", 1, Some(2), 100, "write a.img\n", 7, "PN"),
+        ("check a.pan", 0, None, 8, "read a.pan\n", 7, "old"),
+        ("check a.pan", 9, None, 5, "ok 23\n", 7, "old"),
+        ("run a.img s.txt", 0, None, 100, "read a.img\n", 3, "old"),
+        ("meaning a.pan s.txt", 1, None, 100, "read s.txt\n", 3, "old"),
+        ("meaning a.pan s.txt", 9, None, 5, STORED, 7, "old"),
+        ("meaning a.pan s.txt", 9, None, 50, STORED, 7, "old"),
     ] {
-        let mut files = files_with(alloc, FIRST.as_bytes(), failing)?;
-        let mut out = MemSink::new(alloc, 100, List::new(alloc))?;
-        let status = panc(alloc, words.as_slice(), &mut files, &mut out);
-        assert_eq!(rt;
-            status,
-            if image == "old" && text == "read a.pan\n" {
-                3
-            } else {
-                7
-            }
-        );
-        assert_eq!(rt; out.bytes(), text.as_bytes());
-        assert_eq!(rt;
-            bytes_of(alloc, &mut files, "a.img")?.as_slice(),
-            image.as_bytes()
-        );
+        let mut calls = List::new(alloc);
+        calls.push(Failing { call, keep })?;
+        let mut files = files_with(alloc, FIRST, b"old", "collector 64 0x40000000 1", calls)?;
+        let (out, ended) = ran(alloc, line, &mut files, room)?;
+        assert_eq!(rt; ended, status, "{line}");
+        assert!(rt; text.as_bytes().starts_with(out.bytes()), "{line}");
+        assert_eq!(rt; out.bytes() == text.as_bytes(), room == 100, "{line}");
+        assert_eq!(rt; image_in(alloc, &mut files)?.as_slice(), image.as_bytes(), "{line}");
     }
 
     // The line of the bound can't be put, and the image stands.
-    let mut files = files_with(alloc, FIRST.as_bytes(), None)?;
-    let mut out = MemSink::new(alloc, 5, List::new(alloc))?;
-    assert_eq!(rt; panc(alloc, words.as_slice(), &mut files, &mut out), 7);
+    let mut files = files_with(alloc, FIRST, b"old", "", List::new(alloc))?;
+    let (_, ended) = ran(alloc, "compile a.pan a.img", &mut files, 5)?;
+    assert_eq!(rt; ended, 7);
     let image: &[u8] = &FIRST_IMAGE;
-    assert_eq!(rt; bytes_of(alloc, &mut files, "a.img")?.as_slice(), image);
+    assert_eq!(rt; image_in(alloc, &mut files)?.as_slice(), image);
     Ok(())
 }
 
-/// A read that fails, and lines of a check that can't be put, of which a prefix stays.
+const TWO_LOADS: &str = "fun main() { var a = 0; var b = 0; a = !ld8 0x40000000; b = !ld8 0x40000000; return a - b; }";
+
+const DRIVER: &str = "// poll a status word, then take four bytes
+fun poll() {
+  var s = 0;
+  while 1 {
+    s = !ld32 0x40000004;
+    if s & 1 { return s; } else { }
+  }
+  return 0;
+}
+fun main() {
+  var i = 0;
+  var b = 0;
+  while i <+ 4 {
+    var s = poll();
+    b = !ld8 0x40000000;
+    stb @base + i, b;
+    i = i + 1;
+  }
+  @deliver(@base, 4, @base + 8, 4);
+  return ldb (@base + 8);
+}
+";
+
+const DRIVEN: &str = "ld32 0x0000000040000004 0x0000000000000000
+ld32 0x0000000040000004 0x0000000000000001
+ld8 0x0000000040000000 0x0000000000000068
+ld32 0x0000000040000004 0x0000000000000001
+ld8 0x0000000040000000 0x0000000000000065
+ld32 0x0000000040000004 0x0000000000000000
+ld32 0x0000000040000004 0x0000000000000000
+ld32 0x0000000040000004 0x0000000000000001
+ld8 0x0000000040000000 0x0000000000000079
+ld32 0x0000000040000004 0x0000000000000001
+ld8 0x0000000040000000 0x0000000000000021
+call deliver 68657921 00000000 01010101
+exit 0x0000000000000001
+";
+
+/// Sources by their meaning.
 #[test]
-fn check_meets_faults(rt: HostRuntime) -> Result<(), Fail> {
+fn means(rt: HostRuntime) -> Result<(), Fail> {
     let alloc = rt.alloc();
-    for (call, room, source, line, status) in [
-        (0, 100, "fun main() { return 7; }", "read a.pan\n", 3),
-        (0, 8, "fun main() { return 7; }", "read a.pan\n", 7),
-        (9, 5, "fun main() { return 7; }", "ok 11\n", 7),
-        (9, 5, "fun main() { return y; }", "20 UnknownName\n", 7),
+    for (line, source, script, text, status) in [
+        (
+            "meaning a.pan s.txt",
+            "fun main() { !st32 0x40000000, 5; return 0; }",
+            "collector 32 0x40000000 1",
+            "st32 0x0000000040000000 0x0000000000000005\nexit 0x0000000000000000\n",
+            0,
+        ),
+        (
+            "meaning a.pan s.txt",
+            "fun main() { !st32 0x40000002, 5; return 0; }",
+            "",
+            "fails\n",
+            13,
+        ),
+        (
+            "meaning a.pan s.txt",
+            TWO_LOADS,
+            "queue 8 0x40000000 1 2",
+            "ld8 0x0000000040000000 0x0000000000000001\nld8 0x0000000040000000 0x0000000000000002\nexit 0xffffffffffffffff\n",
+            0,
+        ),
+        (
+            "meaning a.pan s.txt",
+            TWO_LOADS,
+            "queue 8 0x40000000 300",
+            "stopped\n",
+            12,
+        ),
+        (
+            "meaning a.pan s.txt",
+            TWO_LOADS,
+            "queue 8 0x40000000",
+            "asks\n",
+            15,
+        ),
+        (
+            "meaning a.pan s.txt --local 8",
+            "fun main() { @swap(@base, 4, @base + 2, 4); @swap(@base, 0, @base, 0); return lds 1 @base; }",
+            "memory 0 0102030405060708\nforeign swap conf\n",
+            "call swap 01020304 03040506 01020304\ncall swap - - -\nexit 0x0807040302010201\n",
+            0,
+        ),
+        (
+            "meaning a.pan s.txt",
+            "exception A 1; exception B 1; fun main() { raise B 5; }",
+            "",
+            "uncaught 0x0000000000000001\n",
+            14,
+        ),
+        (
+            "meaning a.pan s.txt --steps 5",
+            "fun f(1 n) { !st64 0x40000000, n; var r = f(n + 1); return r + n; } fun main() { var r = f(0); return r; }",
+            "collector 64 0x40000000 100000",
+            "st64 0x0000000040000000 0x0000000000000000\nst64 0x0000000040000000 0x0000000000000001\nst64 0x0000000040000000 0x0000000000000002\nst64 0x0000000040000000 0x0000000000000003\nst64 0x0000000040000000 0x0000000000000004\nspent\n",
+            10,
+        ),
+        (
+            "meaning a.pan s.txt",
+            DRIVER,
+            "queue 32 0x40000004 0 1 1 0 0 1 1\nqueue 8 0x40000000 104 101 121 33\nforeign deliver add 1\n",
+            DRIVEN,
+            0,
+        ),
+        (
+            "meaning a.pan s.txt",
+            "fun main() { return y; }",
+            "queue",
+            "20 UnknownName\n",
+            4,
+        ),
+        (
+            "meaning a.pan b.txt",
+            FIRST,
+            "",
+            "read b.txt\n",
+            3,
+        ),
     ] {
-        let words = words_of(alloc, "check a.pan")?;
-        let failing = Failing { call, keep: None };
-        let mut files = files_with(alloc, source.as_bytes(), Some(failing))?;
-        let mut out = MemSink::new(alloc, room, List::new(alloc))?;
-        let ended = panc(alloc, words.as_slice(), &mut files, &mut out);
-        assert_eq!(rt; ended, status, "{line}");
-        assert!(rt; line.as_bytes().starts_with(out.bytes()), "{line}");
-        assert_eq!(rt; out.bytes() == line.as_bytes(), status == 3, "{line}");
-    }
-    Ok(())
-}
-
-/// Files with `a.img` and `a.rep`.
-fn run_files(alloc: Global, image: &[u8], script: &str) -> Result<MemFiles, NoMemory> {
-    let mut files = List::new(alloc);
-    let image_name = Text::from_str(alloc, "a.img")?;
-    files.push((image_name, Blob::from_slice(alloc, image)?))?;
-    let script_name = Text::from_str(alloc, "a.rep")?;
-    files.push((script_name, Blob::from_slice(alloc, script.as_bytes())?))?;
-    MemFiles::new(alloc, files, List::new(alloc))
-}
-
-/// What this line puts, over files with this image and these replies, and the status.
-fn run_of(
-    alloc: Global,
-    line: &str,
-    image: &[u8],
-    script: &str,
-) -> Result<(MemSink, u8), NoMemory> {
-    let words = words_of(alloc, line)?;
-    let mut files = run_files(alloc, image, script)?;
-    let mut out = MemSink::new(alloc, 100, List::new(alloc))?;
-    let status = panc(alloc, words.as_slice(), &mut files, &mut out);
-    Ok((out, status))
-}
-
-const RUN: &str = "run a.img a.rep";
-
-const STORED: &str = "st64 0x0000000040000000 0x0000000000000005\nexit 0x0000000000000007\n";
-
-#[test]
-fn runs(rt: HostRuntime) -> Result<(), Fail> {
-    for (script, text, status) in [
-        ("done", STORED, 0),
-        ("# a comment\n\ndone\nstop\n", STORED, 0),
-        ("", "asks\n", 15),
-        ("stop", "stopped\n", 12),
-        ("value 5", "stopped\n", 12),
-        ("done\nsay 5\n", "script 2 Word\n", 6),
-        ("value", "script 1 Count\n", 6),
-        ("value x", "script 1 Number\n", 6),
-    ] {
-        let (out, ended) = run_of(rt.alloc(), RUN, &FIRST_IMAGE, script)?;
-        assert_eq!(rt; out.bytes(), text.as_bytes(), "{script}");
-        assert_eq!(rt; ended, status, "{script}");
-    }
-    Ok(())
-}
-
-#[test]
-fn run_words(rt: HostRuntime) -> Result<(), Fail> {
-    for (line, text, status) in [
-        ("run b.img a.rep", "read b.img\n", 3),
-        ("run a.img b.rep", "read b.rep\n", 3),
-        ("run a.img", "usage\n", 2),
-        ("run a.img -a.rep", "usage\n", 2),
-    ] {
-        let (out, ended) = run_of(rt.alloc(), line, &FIRST_IMAGE, "done")?;
-        assert_eq!(rt; out.bytes(), text.as_bytes(), "{line}");
-        assert_eq!(rt; ended, status, "{line}");
-    }
-    Ok(())
-}
-
-/// The line of the event can't be put, nor that of the end, and what was put stays.
-#[test]
-fn run_meets_faults(rt: HostRuntime) -> Result<(), Fail> {
-    let alloc = rt.alloc();
-    let words = words_of(alloc, RUN)?;
-    for room in [5, 50] {
-        let mut files = run_files(alloc, &FIRST_IMAGE, "done")?;
-        let mut out = MemSink::new(alloc, room, List::new(alloc))?;
-        assert_eq!(rt; panc(alloc, words.as_slice(), &mut files, &mut out), 7);
-        assert!(rt; STORED.as_bytes().starts_with(out.bytes()));
+        let mut files = files_with(alloc, source, b"old", script, List::new(alloc))?;
+        let (out, ended) = ran(alloc, line, &mut files, 1_000)?;
+        assert_eq!(rt; out.bytes(), text.as_bytes(), "{line}: {source}");
+        assert_eq!(rt; ended, status, "{line}: {source}");
     }
     Ok(())
 }
@@ -318,42 +336,30 @@ const ECALL_IMAGE: [u8; 36] = [
     0xff, 0xff, 0, 0, 0, 0, 0, 0, 0, 0, 0x73, 0, 0, 0,
 ];
 
+/// Images of one instruction, with a byte changed.
 #[test]
-fn small_images(rt: HostRuntime) -> Result<(), Fail> {
-    for (place, byte, text, status) in [
-        (32, 0x73, "exit 0x0000000000000000\n", 0),
-        (32, 0x6f, "spent\n", 10),
-        (32, 0, "fault\n", 13),
-        (0, 0x51, "image Magic\n", 5),
-        (4, 5, "image Field code\n", 5),
+fn runs(rt: HostRuntime) -> Result<(), Fail> {
+    let alloc = rt.alloc();
+    for (line, place, byte, script, text, status) in [
+        ("run a.img s.txt", 32, 0x73, "", "exit 0x0000000000000000\n", 0),
+        ("run a.img s.txt --steps 10", 32, 0x6f, "", "spent\n", 10),
+        ("run a.img s.txt --steps 0", 32, 0x73, "", "spent\n", 10),
+        ("run a.img s.txt", 32, 0, "", "fault\n", 13),
+        ("run a.img s.txt", 0, 0x51, "queue", "image Magic\n", 5),
+        ("run a.img s.txt", 4, 5, "", "image Field code\n", 5),
+        ("run a.img s.txt", 4, 8, "", "image Short\n", 5),
+        ("run a.img s.txt", 32, 0x73, "register 8 0x40000000 0\n\nqueue 8", "script 3 Count\n", 6),
+        ("run a.img b.txt", 32, 0x73, "", "read b.txt\n", 3),
+        ("run b.img b.txt", 32, 0x73, "", "read b.img\n", 3),
     ] {
-        let mut image = Vec::from_slice(rt.alloc(), &ECALL_IMAGE)?;
+        let mut image = Vec::from_slice(alloc, &ECALL_IMAGE)?;
         if let Some(old) = image.get_mut(place) {
             *old = byte;
         }
-        let (out, ended) = run_of(rt.alloc(), RUN, image.as_slice(), "")?;
-        assert_eq!(rt; out.bytes(), text.as_bytes());
-        assert_eq!(rt; ended, status);
+        let mut files = files_with(alloc, "", image.as_slice(), script, List::new(alloc))?;
+        let (out, ended) = ran(alloc, line, &mut files, 100)?;
+        assert_eq!(rt; out.bytes(), text.as_bytes(), "{line}: {script}");
+        assert_eq!(rt; ended, status, "{line}: {script}");
     }
-    Ok(())
-}
-
-#[test]
-fn short_images(rt: HostRuntime) -> Result<(), Fail> {
-    for n in 0..ECALL_IMAGE.len() {
-        let (out, ended) = run_of(rt.alloc(), RUN, &ECALL_IMAGE[..n], "")?;
-        assert_eq!(rt; out.bytes(), b"image Short\n".as_slice());
-        assert_eq!(rt; ended, 5);
-    }
-    Ok(())
-}
-
-#[test]
-fn longer_image(rt: HostRuntime) -> Result<(), Fail> {
-    let mut image = Vec::from_slice(rt.alloc(), &ECALL_IMAGE)?;
-    image.push(0)?;
-    let (out, ended) = run_of(rt.alloc(), RUN, image.as_slice(), "")?;
-    assert_eq!(rt; out.bytes(), b"image Tail\n".as_slice());
-    assert_eq!(rt; ended, 5);
     Ok(())
 }

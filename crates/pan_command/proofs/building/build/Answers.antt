@@ -1,4 +1,4 @@
-use Rattle.std.proofs.Common.{◌≡◌, Err, sym, ap, ◌∙◌, inl, inr, subst}
+use Rattle.std.proofs.Common.{Err, sym, ap, ◌∙◌, inl, inr, subst}
 use Rattle.straight_form.specs.Form.{IsStraight}
 use Rattle.pan_command.specs.declared.error.BuildError.{BuildError}
 use Rattle.front_end.proofs.Reasons.{handed}

@@ -1,0 +1,59 @@
+//! The action `compile`.
+
+ghost use Rattle.pan_command.specs.Outside.{outside};
+ghost use Rattle.pan_command.specs.Compile.{CompileEnds, StoreEnds};
+
+use crate::building::build;
+use crate::error::BuildError;
+use crate::lines::{put_line, put_source_line};
+use crate::loading::read_file;
+use crate::status::Status;
+use pan_base::{FileError, Sink, SinkFault, Workspace, put_all};
+use std::alloc::Global;
+
+/// Writes the image that was built, and puts the line of its bound.
+fn store<W: Workspace, O: Sink>(
+    alloc: Global,
+    name: &str,
+    image: &[u8],
+    files: &mut W,
+    out: &mut O,
+) -> Status
+    ensures { StoreEnds name.now image.now (outside (W.state files.old) (O.state out.old)) (outside (W.state files.new) (O.state out.new)) result }
+{
+    match files.write(alloc, name, image) {
+        Ok(()) => match put_all(out, b"bound none\n") {
+            Ok(()) => Status::Done,
+            Err(SinkFault) => Status::Unput,
+        },
+        Err(FileError::NoMemory) => Status::NoMemory,
+        Err(FileError::Missing | FileError::Fault) => match put_line(out, "write ", name) {
+            Ok(()) => Status::Unwritten,
+            Err(SinkFault) => Status::Unput,
+        },
+    }
+}
+
+/// The action `compile`: reads the source, and writes its image.
+pub fn compile<W: Workspace, O: Sink>(
+    alloc: Global,
+    source: &str,
+    image: &str,
+    files: &mut W,
+    out: &mut O,
+) -> Status
+    ensures { CompileEnds source.now image.now (outside (W.state files.old) (O.state out.old)) (outside (W.state files.new) (O.state out.new)) result }
+{
+    let bytes = match read_file(alloc, source, files, out) {
+        Ok(bytes) => bytes,
+        Err(status) => return status,
+    };
+    match build(alloc, bytes.as_slice()) {
+        Ok(built) => store(alloc, image, built.as_slice(), files, out),
+        Err(BuildError::NoMemory) => Status::NoMemory,
+        Err(error) => match put_source_line(out, error) {
+            Ok(()) => Status::Refused,
+            Err(SinkFault) => Status::Unput,
+        },
+    }
+}
