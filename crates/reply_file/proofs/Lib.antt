@@ -1,2 +1,0 @@
-pub mod CuttingLemmas
-pub mod ReplyLemmas
