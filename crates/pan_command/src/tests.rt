@@ -116,7 +116,7 @@ fn compiles_and_checks(rt: HostRuntime) -> Result<(), Fail> {
         assert_eq!(rt; ended, status, "{line}: {source}");
         let image = image_in(alloc, &mut files)?;
         assert_eq!(rt;
-            image.as_slice() == b"old",
+            image.as_slice() == "old".as_bytes(),
             text != "bound none\n",
             "{line}: {source}"
         );
