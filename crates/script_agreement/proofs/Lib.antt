@@ -5,3 +5,4 @@ pub mod MachineOrder
 pub mod Cut
 pub mod ScriptDevices
 pub mod Meeting
+pub mod FilledMemory

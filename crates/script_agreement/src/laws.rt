@@ -1,13 +1,13 @@
 //! Laws of runs under a script, on calls that do nothing.
 
-ghost use Rattle.std.specs.Prelude.{◌≡◌, ◌≢◌, ℕ, List, Option};
+ghost use Rattle.std.specs.Prelude.{◌≡◌, ◌≢◌, ℕ, ◌%◌, ◌≤◌, List, Option, Ok};
 ghost use Rattle.pan_base.specs.Events.{Replied, Fails};
 ghost use Rattle.pan_tree.specs.Meaning.{source};
 ghost use Rattle.pan_tree.specs.declared.program.Program.{Program};
 ghost use Rattle.riscv_isa.specs.Image.{ImageOf};
 ghost use Rattle.riscv_isa.specs.Machine.{machine, IsLawfulMemory, IsLawfulStack};
 ghost use Rattle.pan_agree.specs.Faithful.{Faithful};
-ghost use Rattle.device_script.specs.Script.{Content};
+ghost use Rattle.device_script.specs.Script.{Content, script_of_file};
 ghost use Rattle.device_script.specs.Memory.{filled};
 ghost use Rattle.script_agreement.specs.Given.{IsGiven, Concur};
 
@@ -19,6 +19,12 @@ pub fn given_once()
     ensures of_machine { (code : List ℕ) (names : List (List ℕ)) (script : Content) (memory : List ℕ) (stack steps : ℕ) (first second : List Replied)
         → IsGiven script (machine code names memory stack first steps) first
         → IsGiven script (machine code names memory stack second steps) second → first ≡ second }
+{}
+
+/// A script's file fills each local memory of a lawful length lawfully.
+pub fn fills_lawful_memory()
+    ensures { (file : List ℕ) (script : Content) (local : ℕ)
+        → script_of_file file ≡ Ok script → local % 8 ≡ 0 → local ≤ 67108864 → IsLawfulMemory (filled script.pieces local) }
 {}
 
 /// Under one script, and on the memory that it fills, a source and an image that is faithful to it do the same as far as

@@ -3,4 +3,4 @@
 
 mod laws;
 
-pub use laws::{agrees_under_script, given_once};
+pub use laws::{agrees_under_script, fills_lawful_memory, given_once};
