@@ -42,7 +42,8 @@ fn go<O: Sink>(
     let Ok(mut memory) = local_memory(alloc, &script, options.local) else {
         return Status::NoMemory;
     };
-    let Ok(mut machine) = Machine::boot(alloc, image, &memory, options.stack) else {
+    let local = memory.as_slice();
+    let Ok(mut machine) = Machine::boot(alloc, image, local, options.stack) else {
         return Status::NoMemory;
     };
     play(&mut machine, script, &mut memory, options.steps, out)
