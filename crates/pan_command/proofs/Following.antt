@@ -63,5 +63,5 @@ module _ (before mid after : Outside) (same : NoneChanged (before.files).files (
       line = put_before _ r.line;
     }
 
-  pub read_before : (bytes : List ℕ) (script : Content) → Holds (mid.files).files name bytes → script_of_file bytes ≡ Ok script → ScriptRead before name
+  abbrev pub read_before : (bytes : List ℕ) (script : Content) → Holds (mid.files).files name bytes → script_of_file bytes ≡ Ok script → ScriptRead before name
   read_before bytes script held says = record { bytes = bytes; held = held_before _ _ _ _ same held; script = script; says = says }

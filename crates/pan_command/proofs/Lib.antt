@@ -1,5 +1,6 @@
 pub mod Told
 pub mod Following
+pub mod FilledMemory
 pub mod Reasons
 pub mod Refusals
 pub mod Storing

@@ -24,7 +24,7 @@ use Rattle.pan_command.proofs.RunCompleteness.{script_is, refusal_is}
 use Rattle.pan_command.proofs.Told.{same_bytes, not_held, not_unread}
 
 -- how `meaning` ends with this status where no put failed
-data Found (options : Options) (before after : Outside) (source script : List ℕ) (n : ℕ) : Type 0 where
+pub data Found (options : Options) (before after : Outside) (source script : List ℕ) (n : ℕ) : Type 0 where
   IsStarved : (is : n ≡ 8) → Found options before after source script n
   IsUnread : (is : n ≡ 3) (h : MeaningUnread (Took before.out after.out) before after source script) → Found options before after source script n
   IsRefused : (is : n ≡ 4) (h : Unpassed (Took before.out after.out) before source) → Found options before after source script n

@@ -46,7 +46,7 @@ module _ (before : Outside) (all : Files) (told : (before.files).files ≡ Some 
 -- ---- how it ends
 
 -- how `run` ends with this status where no put failed
-data Found (options : Options) (before after : Outside) (image script : List ℕ) (n : ℕ) : Type 0 where
+pub data Found (options : Options) (before after : Outside) (image script : List ℕ) (n : ℕ) : Type 0 where
   IsStarved : (is : n ≡ 8) → Found options before after image script n
   IsUnread : (is : n ≡ 3) (h : RunUnread (Took before.out after.out) before after image script) → Found options before after image script n
   IsNoImage : (is : n ≡ 5) (h : NoImage (Took before.out after.out) before image) → Found options before after image script n

@@ -36,7 +36,8 @@ fn go<O: Sink>(alloc: Global, image: Image, script: Script, options: Options, ou
     let Ok(mut memory) = local_memory(alloc, &script, options.local) else {
         return Status::NoMemory;
     };
-    let Ok(mut machine) = Machine::boot(alloc, image, &memory, options.stack) else {
+    let local = memory.as_slice();
+    let Ok(mut machine) = Machine::boot(alloc, image, local, options.stack) else {
         return Status::NoMemory;
     };
     play(&mut machine, script, &mut memory, options.steps, out)

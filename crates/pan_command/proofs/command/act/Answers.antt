@@ -1,10 +1,10 @@
-use Rattle.std.proofs.Common.{◌≡◌, inl, Ok, Err}
+use Rattle.std.proofs.Common.{◌≡◌, inl, inr, Result, Ok, Err}
 use Rattle.std.specs.Prelude.{◌⊎◌}
 use Rattle.command_words.specs.declared.error.WordsError.{WordsError}
 use Rattle.command_words.specs.declared.order.Order.{Order}
 use Rattle.pan_command.proofs.command.act.Goals as goal
 
-the_order : (order other : Order) (e : WordsError) → (let r = Ok {E = WordsError} order in (r ≡ Ok other) ⊎ (r ≡ Err e)) → other ≡ order
+the_order : (order other : Order) (e : WordsError) → (let r : Result Order WordsError = Ok order in (r ≡ Ok other) ⊎ (r ≡ Err e)) → other ≡ order
 the_order order other e h = elim h [ inl x ↦ cc | inr x ↦ cc ]
 
 pub returns-in-Ok : goal.returns-in-Ok
