@@ -49,7 +49,6 @@ module _ (before after : Outside) (all : Files) (source : List ℕ) (told : (bef
     unpassed_ends e unchecked status.NoMemory h = inr refl
     unpassed_ends e unchecked (status.Ran end) h = absurd h
 
-
   pub missing_ends : all source ≡ None → (s : Status) → CheckCases source before after s → (code s ≡ 3) ⊎ (code s ≡ 8)
   missing_ends gone status.Done h = absurd (not_held _ all source (h.read).bytes told gone (h.read).held)
   missing_ends gone status.Usage h = absurd h

@@ -33,14 +33,14 @@ pub record MeaningUnput (options : Options) (before after : Outside) (program sc
       ⊎ (Unpassed (TookFront before.out after.out) before program
       ⊎ ((SourceRead before program × ScriptRefused (TookFront before.out after.out) before script)
       ⊎ ((p : SourceRead before program) × (s : ScriptRead before script)
-          × PlayedInPart (TookFront before.out after.out) (source_goes p.program s.script options) s.script options.steps)))
+      × PlayedInPart (TookFront before.out after.out) (source_goes p.program s.script options) s.script options.steps)))
 
 -- There was no memory: nothing is put, or the lines of the first events of the run.
 abbrev pub MeaningStarved : Options → Outside → Outside → List ℕ → List ℕ → Type 0
 MeaningStarved options before after program script =
     Took before.out after.out []
     ⊎ ((p : SourceRead before program) × (s : ScriptRead before script)
-        × Broken (Took before.out after.out) (source_goes p.program s.script options) s.script options.steps)
+    × Broken (Took before.out after.out) (source_goes p.program s.script options) s.script options.steps)
 
 -- how `meaning` ends, beside that no file changes
 abbrev pub MeaningCases : Options → List ℕ → List ℕ → Outside → Outside → Status → Type 0

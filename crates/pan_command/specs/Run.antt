@@ -65,7 +65,7 @@ pub record RunUnput (options : Options) (before after : Outside) (image script :
       ⊎ (NoImage (TookFront before.out after.out) before image
       ⊎ ((ImageRead before image × ScriptRefused (TookFront before.out after.out) before script)
       ⊎ ((i : ImageRead before image) × (s : ScriptRead before script)
-          × PlayedInPart (TookFront before.out after.out) (image_goes i.parts s.script options) s.script options.steps)))
+      × PlayedInPart (TookFront before.out after.out) (image_goes i.parts s.script options) s.script options.steps)))
 
 -- how `run` ends, beside that no file changes
 abbrev pub RunCases : Options → List ℕ → List ℕ → Outside → Outside → Status → Type 0

@@ -9,10 +9,10 @@ ghost use Rattle.pan_command.specs.Run.{field_text, image_line};
 ghost use Rattle.pan_command.specs.Served.{caused, source_line};
 
 use crate::error::BuildError;
+use device_script::Cause;
 use image_file::{FieldName, ImageError};
 use itoa::Buffer;
 use pan_base::{Sink, SinkFault, put_all, put_each};
-use device_script::Cause;
 
 /// Puts a word, a name and a line feed.
 pub fn put_line<'x, O: Sink>(out: &mut O, word: &'x str, name: &'x str) -> Result<(), SinkFault>

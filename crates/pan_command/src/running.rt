@@ -28,13 +28,7 @@ pub fn local_memory(alloc: Global, script: &Script, bytes: u64) -> Result<Vec<u8
 }
 
 /// Runs the image over the script, and puts the lines of its trace and its end.
-fn go<O: Sink>(
-    alloc: Global,
-    image: Image,
-    script: Script,
-    options: Options,
-    out: &mut O,
-) -> Status
+fn go<O: Sink>(alloc: Global, image: Image, script: Script, options: Options, out: &mut O) -> Status
     requires local { IsSize 8 options.local }
     requires stack { IsSize 16 options.stack }
     ensures { GoesOut (image_goes image script options) script options.steps (O.state out.old) (O.state out.new) result }

@@ -95,18 +95,8 @@ fn compiles_and_checks(rt: HostRuntime) -> Result<(), Fail> {
         ),
         ("compile b.pan a.img", FIRST, "read b.pan\n", 3),
         ("check a.pan", FIRST, "ok 23\n", 0),
-        (
-            "check a.pan",
-            "fun main() { return $; }",
-            "20 BadByte\n",
-            4,
-        ),
-        (
-            "check a.pan",
-            "fun main() { return 1 +",
-            "23 Syntax\n",
-            4,
-        ),
+        ("check a.pan", "fun main() { return $; }", "20 BadByte\n", 4),
+        ("check a.pan", "fun main() { return 1 +", "23 Syntax\n", 4),
         (
             "check a.pan",
             "fun main() { return 1 + (y); }",
@@ -125,7 +115,11 @@ fn compiles_and_checks(rt: HostRuntime) -> Result<(), Fail> {
         assert_eq!(rt; out.bytes(), text.as_bytes(), "{line}: {source}");
         assert_eq!(rt; ended, status, "{line}: {source}");
         let image = image_in(alloc, &mut files)?;
-        assert_eq!(rt; image.as_slice() == b"old", text != "bound none\n", "{line}: {source}");
+        assert_eq!(rt;
+            image.as_slice() == b"old".as_slice(),
+            text != "bound none\n",
+            "{line}: {source}"
+        );
     }
     Ok(())
 }
@@ -170,13 +164,45 @@ fn image_and_source(rt: HostRuntime) -> Result<(), Fail> {
 fn meets_faults(rt: HostRuntime) -> Result<(), Fail> {
     let alloc = rt.alloc();
     for (line, call, keep, room, text, status, image) in [
-        ("compile a.pan a.img", 0, None, 100, "read a.pan\n", 3, "old"),
-        ("compile a.pan a.img", 1, None, 100, "write a.img\n", 7, "old"),
-        ("compile a.pan a.img", 1, Some(2), 100, "write a.img\n", 7, "PN"),
+        (
+            "compile a.pan a.img",
+            0,
+            None,
+            100,
+            "read a.pan\n",
+            3,
+            "old",
+        ),
+        (
+            "compile a.pan a.img",
+            1,
+            None,
+            100,
+            "write a.img\n",
+            7,
+            "old",
+        ),
+        (
+            "compile a.pan a.img",
+            1,
+            Some(2),
+            100,
+            "write a.img\n",
+            7,
+            "PN",
+        ),
         ("check a.pan", 0, None, 8, "read a.pan\n", 7, "old"),
         ("check a.pan", 9, None, 5, "ok 23\n", 7, "old"),
         ("run a.img s.txt", 0, None, 100, "read a.img\n", 3, "old"),
-        ("meaning a.pan s.txt", 1, None, 100, "read s.txt\n", 3, "old"),
+        (
+            "meaning a.pan s.txt",
+            1,
+            None,
+            100,
+            "read s.txt\n",
+            3,
+            "old",
+        ),
         ("meaning a.pan s.txt", 9, None, 5, STORED, 7, "old"),
         ("meaning a.pan s.txt", 9, None, 50, STORED, 7, "old"),
     ] {
@@ -187,7 +213,11 @@ fn meets_faults(rt: HostRuntime) -> Result<(), Fail> {
         assert_eq!(rt; ended, status, "{line}");
         assert!(rt; text.as_bytes().starts_with(out.bytes()), "{line}");
         assert_eq!(rt; out.bytes() == text.as_bytes(), room == 100, "{line}");
-        assert_eq!(rt; image_in(alloc, &mut files)?.as_slice(), image.as_bytes(), "{line}");
+        assert_eq!(rt;
+            image_in(alloc, &mut files)?.as_slice(),
+            image.as_bytes(),
+            "{line}"
+        );
     }
 
     // The line of the bound can't be put, and the image stands.
@@ -199,7 +229,8 @@ fn meets_faults(rt: HostRuntime) -> Result<(), Fail> {
     Ok(())
 }
 
-const TWO_LOADS: &str = "fun main() { var a = 0; var b = 0; a = !ld8 0x40000000; b = !ld8 0x40000000; return a - b; }";
+const TWO_LOADS: &str =
+    "fun main() { var a = 0; var b = 0; a = !ld8 0x40000000; b = !ld8 0x40000000; return a - b; }";
 
 const DRIVER: &str = "// poll a status word, then take four bytes
 fun poll() {
@@ -314,13 +345,7 @@ fn means(rt: HostRuntime) -> Result<(), Fail> {
             "20 UnknownName\n",
             4,
         ),
-        (
-            "meaning a.pan b.txt",
-            FIRST,
-            "",
-            "read b.txt\n",
-            3,
-        ),
+        ("meaning a.pan b.txt", FIRST, "", "read b.txt\n", 3),
     ] {
         let mut files = files_with(alloc, source, b"old", script, List::new(alloc))?;
         let (out, ended) = ran(alloc, line, &mut files, 1_000)?;
@@ -341,14 +366,28 @@ const ECALL_IMAGE: [u8; 36] = [
 fn runs(rt: HostRuntime) -> Result<(), Fail> {
     let alloc = rt.alloc();
     for (line, place, byte, script, text, status) in [
-        ("run a.img s.txt", 32, 0x73, "", "exit 0x0000000000000000\n", 0),
+        (
+            "run a.img s.txt",
+            32,
+            0x73,
+            "",
+            "exit 0x0000000000000000\n",
+            0,
+        ),
         ("run a.img s.txt --steps 10", 32, 0x6f, "", "spent\n", 10),
         ("run a.img s.txt --steps 0", 32, 0x73, "", "spent\n", 10),
         ("run a.img s.txt", 32, 0, "", "fault\n", 13),
         ("run a.img s.txt", 0, 0x51, "queue", "image Magic\n", 5),
         ("run a.img s.txt", 4, 5, "", "image Field code\n", 5),
         ("run a.img s.txt", 4, 8, "", "image Short\n", 5),
-        ("run a.img s.txt", 32, 0x73, "register 8 0x40000000 0\n\nqueue 8", "script 3 Count\n", 6),
+        (
+            "run a.img s.txt",
+            32,
+            0x73,
+            "register 8 0x40000000 0\n\nqueue 8",
+            "script 3 Count\n",
+            6,
+        ),
         ("run a.img b.txt", 32, 0x73, "", "read b.txt\n", 3),
         ("run b.img b.txt", 32, 0x73, "", "read b.img\n", 3),
     ] {
