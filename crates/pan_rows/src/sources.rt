@@ -13,9 +13,9 @@ const LOCAL: usize = 65_536;
 
 /// Bytes of local memory: these, and then zeros.
 fn memory_with(alloc: Global, front: &[u8]) -> Result<Vec<u8>, NoMemory> {
-    let mut memory = vec![in alloc; 0u8; LOCAL]?;
-    for (i, byte) in front.iter().enumerate().take(LOCAL) {
-        memory[i] = *byte;
+    let mut memory = Vec::from_slice(alloc, front)?;
+    for _ in front.len()..LOCAL {
+        memory.push(0)?;
     }
     Ok(memory)
 }
@@ -29,11 +29,11 @@ fn ran<D: Device>(
     fuel: u64,
 ) -> Result<Blob, Fail> {
     let program = read_program(alloc, source.as_bytes())?;
-    let memory = memory_with(alloc, front)?;
+    let mut memory = memory_with(alloc, front)?;
     let mut runner = Runner::new(alloc, &program, memory.as_slice())?;
-    let mut room = vec![in alloc; 0u8; LOCAL]?;
     let mut out = MemSink::new(alloc, 4000, List::new(alloc))?;
-    let end = drive(&mut runner, device, &mut out, &mut room, fuel)?;
+    // the runner has a copy of its own, so this one has room for the replies
+    let end = drive(&mut runner, device, &mut out, &mut memory, fuel)?;
     write_end(&mut out, end)?;
     Ok(Blob::from_slice(alloc, out.bytes())?)
 }
@@ -310,15 +310,14 @@ fn asks_before_it_fails(rt: HostRuntime) -> Result<(), Fail> {
         alloc,
         b"fun main() { !st64 0x40000000, 5; st 0, 1; return 0; }",
     )?;
-    let memory = memory_with(alloc, b"")?;
+    let mut memory = memory_with(alloc, b"")?;
     let mut runner = Runner::new(alloc, &program, memory.as_slice())?;
     let mut out = MemSink::new(alloc, 100, List::new(alloc))?;
-    let mut room = vec![in alloc; 0u8; LOCAL]?;
     let end = drive(
         &mut runner,
         &mut device_of(alloc, &[])?,
         &mut out,
-        &mut room,
+        &mut memory,
         FUEL,
     )?;
     assert_eq!(rt; end, End::Asks);
