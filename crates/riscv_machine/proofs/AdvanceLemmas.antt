@@ -8,7 +8,7 @@ use Rattle.pan_port.specs.declared.asker.Pause.TheVariants as pause
 use Rattle.pan_port.specs.Asker.{Meaning, Advances, HasEnded, IsOver, PausesAt}
 use Rattle.riscv_isa.specs.declared.pending.Pending.{Pending}
 use Rattle.riscv_isa.specs.Step.{State, Config, Runs, Waits, Over, step, request_of}
-use Rattle.riscv_isa.specs.Machine.{run}
+use Rattle.riscv_isa.specs.Running.{run}
 use Rattle.riscv_machine.specs.declared.machine.MachineEnd.{MachineEnd}
 use Rattle.riscv_machine.specs.declared.machine.MachineEnd.TheVariants as machine_end
 use Rattle.riscv_machine.specs.declared.machine.Machine.{Machine}

@@ -5,7 +5,8 @@ use Rattle.pan_base.specs.Events.{Asked, Replied, Fits, fits, Stopped, Behaviour
 use Rattle.pan_port.specs.Asker.{Meaning, Answers, Takes, Ends, IsAsking}
 use Rattle.riscv_isa.specs.declared.pending.Pending.{Pending}
 use Rattle.riscv_isa.specs.Step.{State, Config, Runs, Waits, Over, request_of, resumed}
-use Rattle.riscv_isa.specs.Machine.{taken, run}
+use Rattle.riscv_isa.specs.Running.{taken}
+use Rattle.riscv_isa.specs.Machine.{run}
 use Rattle.riscv_machine.specs.declared.machine.Machine.{Machine}
 use Rattle.riscv_machine.specs.declared.machine.Phase.TheVariants as phase
 use Rattle.riscv_machine.specs.View.{config_in, pending_in}

@@ -4,7 +4,7 @@ ghost use Rattle.std.specs.Prelude.{◌≡◌, ◌+◌, ◌*◌, ◌%◌, ◌<�
 ghost use Rattle.pan_base.specs.Events.{byte_count};
 ghost use Rattle.riscv_isa.specs.Regions.{place_of};
 ghost use Rattle.riscv_isa.specs.Results.{loads};
-ghost use Rattle.riscv_machine.specs.View.{IsUnrefused};
+ghost use Rattle.riscv_machine.specs.View.{IsUnrefused, IsKeptAtEnd};
 
 use crate::machine::{Machine, MachineEnd, Phase};
 use crate::results::{l_result, loads};
@@ -37,6 +37,7 @@ impl Machine {
             load (place_of self.old.memory addr (byte_count (loads op))) op rd addr (state_of self.old) }
         ensures size { HasSize self.old self.new }
         ensures unrefused { IsUnrefused self.new.phase }
+        ensures kept { IsKeptAtEnd self.new.phase (state_of self.old) (state_of self.new) }
     {
         let size = loads(op);
         match self.memory.find_place(addr, size) {
@@ -60,6 +61,7 @@ impl Machine {
             store (place_of self.old.memory addr (byte_count size)) size addr value (state_of self.old) }
         ensures size { HasSize self.old self.new }
         ensures unrefused { IsUnrefused self.new.phase }
+        ensures kept { IsKeptAtEnd self.new.phase (state_of self.old) (state_of self.new) }
     {
         match self.memory.find_place(addr, size) {
             Place::In(region, at) => {
