@@ -5,7 +5,8 @@ use Rattle.std.proofs.lemmas.Bool.{false≢true}
 use Rattle.pan_base.specs.Events.{Event, Ending, Spent, Stack, Fails, Behaviour, IsPrefix}
 use Rattle.pan_control.specs.Seen.{Seen}
 use Rattle.pan_agree.specs.Agree.{is_real, Overflows, DoesNoMore, Agree}
-use Rattle.pan_agree.specs.Laws.{IsSteady, IsSourceLike, DoesInTime, ForwardInTime}
+use Rattle.pan_tree.specs.Ends.{IsSourceLike}
+use Rattle.pan_agree.specs.Laws.{IsSteady, DoesInTime, ForwardInTime, ForwardWithin}
 use Rattle.pan_agree.proofs.Longer.{prefix_refl}
 
 prefix_trans : (xs ys zs : List Event) → IsPrefix xs ys → IsPrefix ys zs → IsPrefix xs zs
@@ -87,3 +88,7 @@ module _ (stack : ℕ) (source : ℕ → Seen) (machine : ℕ → Behaviour) (st
     backward = λ never k. let f = forward k (never k) in no_more k f.0 f.1 (stands k f.0);
     exhausts = λ never k end. let f = forward k (never k) in (k, overflowed k f.0 end f.1 (stands k f.0));
   }
+
+-- what is done within limits is done in time
+pub in_time : (stack : ℕ) (limit : ℕ → ℕ) (source : ℕ → Seen) (machine : ℕ → Behaviour) → ForwardWithin stack limit source machine → ForwardInTime stack source machine
+in_time stack limit source machine f n not_failed = let (k, _, does) = f n not_failed in (k, does)
