@@ -1,3 +1,2 @@
-pub mod Longer
 pub mod BothWays
 pub mod WrongMachines

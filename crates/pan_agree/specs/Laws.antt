@@ -1,13 +1,8 @@
--- What the law of both directions asks of a source, of a machine, and of the forward direction between them.
-use Rattle.std.specs.Prelude.{◌≡◌, ◌≢◌, ◌⊎◌, ℕ, ◌+◌, ◌≤◌}
-use Rattle.pan_base.specs.Events.{Spent, Fails, Behaviour, IsPrefix}
+-- What the law of both directions asks of the forward direction.
+use Rattle.std.specs.Prelude.{◌≡◌, ◌≢◌, ◌⊎◌, ℕ, ◌≤◌}
+use Rattle.pan_base.specs.Events.{Spent, Fails, Behaviour}
 use Rattle.pan_control.specs.Seen.{Seen}
 use Rattle.pan_agree.specs.Agree.{Overflows}
-
--- with more steps the machine's events go on, and a run that has ended stays as it is
-pub record IsSteady (machine : ℕ → Behaviour) : Type 0 where
-  pub front : (k j : ℕ) → IsPrefix (machine k).events (machine (k + j)).events
-  pub same : (k j : ℕ) → ((machine k).ending ≡ Spent) ⊎ (machine (k + j) ≡ machine k)
 
 -- the machine does in k steps what the source did with n units of fuel, and took at least as many steps as units where the source was spent
 pub record DoesInTime (n k : ℕ) (s : Seen) (b : Behaviour) : Type 0 where
