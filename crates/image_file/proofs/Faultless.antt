@@ -1,5 +1,5 @@
 -- Bytes are an image exactly where nothing is wrong with them.
-use Rattle.std.proofs.Common.{◌≡◌, ℕ, ◌+◌, zero, suc, Bool, true, false, cond, not, List, [], ◌∷◌, Option, Some, None, refl, sym, ap, subst, ◌∙◌, arith}
+use Rattle.std.proofs.Common.{◌≡◌, ℕ, ◌+◌, zero, suc, true, false, List, [], Option, Some, None, refl, sym, ap, subst, ◌∙◌, arith}
 use Rattle.std.specs.Prelude.{◌↔◌}
 use Rattle.std.specs.Option.{option_or, option_map_or}
 use Rattle.std.proofs.lemmas.Bool.{false≢true, not-false}
@@ -7,10 +7,10 @@ use Rattle.pan_base.specs.Words.{IsBytes}
 use Rattle.riscv_isa.specs.Image.{ImageParts, ImageOf, are_foreign_names}
 use Rattle.image_file.specs.declared.error.ImageError.{ImageError}
 use Rattle.image_file.specs.declared.error.ImageError.TheVariants.{BadName}
-use Rattle.image_file.specs.Faults.{first_fault, header_tests, name_tests, is_bad_name, fault_of}
+use Rattle.image_file.specs.Faults.{first_fault, name_tests, is_bad_name, fault_of}
 use Rattle.image_file.specs.Fields.{header_of, names_bytes, code_bytes, names_at}
 use Rattle.image_file.specs.Split.{bound_in}
-use Rattle.image_file.proofs.FaultLaws.{none_holds, tests_of_end, fault_of-parts}
+use Rattle.image_file.proofs.FaultLaws.{none_holds, fault_of-parts}
 use Rattle.image_file.proofs.ImageLaws.{is_image}
 use Rattle.image_file.proofs.WrittenLaws.{image_reads}
 

@@ -1,9 +1,8 @@
 -- Where a machine that has ended stands.
-use Rattle.std.proofs.Common.{◌≡◌, ℕ, ◌+◌, refl, sym, ap, subst, ◌∙◌, arith, Some}
+use Rattle.std.proofs.Common.{◌≡◌, ℕ, ◌+◌, refl, sym, ap, subst, ◌∙◌}
 use Rattle.riscv_isa.specs.Running.{Leads}
-use Rattle.riscv_isa.specs.Step.{State, Config, Runs, Over, step}
+use Rattle.riscv_isa.specs.Step.{Runs, Over, step}
 use Rattle.riscv_isa.proofs.RunLaws.{leads_on}
-use Rattle.riscv_machine.specs.declared.machine.MachineEnd.{MachineEnd}
 use Rattle.riscv_machine.specs.declared.machine.Machine.{Machine}
 use Rattle.riscv_machine.specs.declared.machine.Phase.TheVariants as phase
 use Rattle.riscv_machine.specs.View.{config_in, ending_of, IsKeptAtEnd}
