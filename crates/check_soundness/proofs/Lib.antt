@@ -1,0 +1,2 @@
+pub mod SpreadShapes
+pub mod Alike
