@@ -1,2 +1,4 @@
 pub mod SpreadShapes
 pub mod Alike
+pub mod AlikeScopes
+pub mod AlikeExprs
