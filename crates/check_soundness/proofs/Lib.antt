@@ -2,3 +2,5 @@ pub mod SpreadShapes
 pub mod Alike
 pub mod AlikeScopes
 pub mod AlikeExprs
+pub mod Rules
+pub mod ShapedExprs
