@@ -69,7 +69,7 @@ pub declare_shapes : {A : Type 0} (f : A → Shape) (x : List ℕ) (a : A) (v : 
 declare_shapes f x a [] = refl
 declare_shapes {A} f x a (scope ∷ scopes) = ap (λ s. s ∷ at_shapes f scopes) (map_last {A = List ℕ × A} (λ q. (q.0, f q.1)) scope (x, a))
 
-drop_shapes : {A : Type 0} (f : A → Shape) (v : ScopesOf A) → at_shapes f (drop 1 v) ≡ drop 1 (at_shapes f v)
+pub drop_shapes : {A : Type 0} (f : A → Shape) (v : ScopesOf A) → at_shapes f (drop 1 v) ≡ drop 1 (at_shapes f v)
 drop_shapes f [] = refl
 drop_shapes f (scope ∷ scopes) = refl
 

@@ -4,3 +4,5 @@ pub mod AlikeScopes
 pub mod AlikeExprs
 pub mod Rules
 pub mod ShapedExprs
+pub mod Fitting
+pub mod OwnRules

@@ -43,7 +43,7 @@ ComesTo None j F = j.breaks ≡ [] → F
 
 -- ---- words
 
-word_or_struct : (vs : Values) (s : Shape) → is_word s ≡ true → shape_in (Struct vs) ≡ spread s → ⊥
+pub word_or_struct : (vs : Values) (s : Shape) → is_word s ≡ true → shape_in (Struct vs) ≡ spread s → ⊥
 word_or_struct vs s h e =
     let no : Some (shapes_in vs) ≡ None = sym (parts_group (shapes_in vs)) ∙ ap parts_of (e ∙ word_spread s h) ∙ parts_word in
     absurd cc
