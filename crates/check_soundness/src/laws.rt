@@ -1,0 +1,1 @@
+//! What the check's rules give, on calls that do nothing.
