@@ -3,6 +3,7 @@ pub mod Fetching
 pub mod RunLaws
 pub mod Spelling
 pub mod KnownRuns
+pub mod Ranges
 pub mod Places
 pub mod Fixed
 pub mod Memories
