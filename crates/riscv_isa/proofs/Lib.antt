@@ -6,5 +6,6 @@ pub mod KnownRuns
 pub mod Ranges
 pub mod Places
 pub mod Fixed
+pub mod SoundLaws
 pub mod Memories
 pub mod Registers
