@@ -4,5 +4,6 @@ pub mod Held
 pub mod Regions
 pub mod Running
 pub mod Step
+pub mod Sound
 pub mod Image
 pub mod Machine
