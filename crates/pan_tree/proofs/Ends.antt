@@ -3,10 +3,11 @@ use Rattle.std.proofs.Common.{ℕ, zero, suc, ◌*◌, ◌%◌, ◌^◌, List, [
 use Rattle.std.specs.Prelude.{nat_eq, if◌then◌else◌, slice_get, drop, codes}
 use Rattle.std.specs.Option.{option_map_or}
 use Rattle.pan_base.specs.Events.{Load, Store, Foreign, Replied, byte_count}
-use Rattle.pan_control.specs.World.{World, entered, tolled}
+use Rattle.pan_control.specs.World.{entered, tolled}
 use Rattle.pan_control.specs.Memory.{is_shared, bytes_at, with_byte, with_words}
-use Rattle.pan_control.specs.Control.{Outcome, Normal, Broken, Continued, Returned, Raised, Over, Callee, with_value, call}
+use Rattle.pan_control.specs.Control.{Normal, Broken, Continued, Returned, Raised, Over, with_value, call}
 use Rattle.pan_control.proofs.Ends.{IsHigh, EndsHigh, RunsHigh, CallsHigh, AllHigh, failed, spent, in_turn_high, value_high, where_high, choice_high, ask_high, turns_high, call_high, tail_high, left_high, on_high}
+use Rattle.pan_tree.specs.Running.{World, Outcome, Callee}
 use Rattle.pan_tree.specs.Value.{Value, word_of, words_in}
 use Rattle.pan_tree.specs.Check.{cost, function_of, result_of}
 use Rattle.pan_tree.specs.Meaning.{Does, Scope, Scopes, scoped, into, into_nothing, caught, foreign, tested_again, expr_weight, own_weight, act_layer, run_layer, run_kind, value, values, word, function_index, exception_index, foreign_index, parameters, entry_weight, body_of, calls, seen, exit_of, source, start}
