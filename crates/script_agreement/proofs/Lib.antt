@@ -1,6 +1,3 @@
-pub mod Runs
-pub mod InOrder
-pub mod SourceOrder
 pub mod MachineOrder
 pub mod Cut
 pub mod ScriptDevices

@@ -12,10 +12,12 @@ use Rattle.riscv_isa.specs.declared.place.Region.TheVariants as region
 use Rattle.riscv_isa.specs.Regions.{is_in, place_of}
 use Rattle.riscv_isa.specs.Results.{loads, stores, plus}
 use Rattle.pan_base.specs.Words.{compare}
-use Rattle.riscv_isa.specs.Step.{State, Config, Runs, Waits, Over, act, act_some, decoded_some, ended, fetched, foreign, jump, linked, load, reg, request_of, resumed, step, store}
-use Rattle.riscv_isa.specs.Machine.{taken, continue, run, booted, machine}
+use Rattle.riscv_isa.specs.Step.{State, Config, act, act_some, decoded_some, ended, fetched, foreign, jump, linked, load, reg, request_of, resumed, step, store}
+use Rattle.riscv_isa.specs.Running.{Runs, Waits, Over, taken}
+use Rattle.riscv_isa.specs.Image.{ImageParts}
+use Rattle.riscv_isa.specs.Machine.{continue, run, booted, machine}
 use Rattle.pan_tree.specs.GoesOn.{AnsweredBy}
-use Rattle.script_agreement.proofs.Runs.{Left, Uses, IsRun}
+use Rattle.pan_tree.specs.InOrder.{Left, Uses, TakesInOrder}
 
 -- ---- a step ends the machine in no way that a reply would
 
@@ -180,9 +182,9 @@ unfolding run
 answered zero s replies r later = λ q is. absurd (cc)
 answered (suc k) s replies r later = answered_on (step s) (run k) (own_step s) (λ t rs x more. answered k t rs x more) replies r later
 
-pub machine_runs : (code : List ℕ) (names : List (List ℕ)) (memory : List ℕ) (stack k : ℕ) → IsRun (λ replies. machine code names memory stack replies k)
-machine_runs code names memory stack k = record {
-  uses = λ replies. uses k (booted code names memory stack) replies;
-  stays = λ replies later never. stays k (booted code names memory stack) replies later never;
-  answered = λ replies r later q is. answered k (booted code names memory stack) replies r later q is;
+pub machine_in_order : (parts : ImageParts) (memory : List ℕ) (stack k : ℕ) → TakesInOrder (λ replies. machine parts memory stack replies k)
+machine_in_order parts memory stack k = record {
+  uses = λ replies. uses k (booted parts memory stack) replies;
+  stays = λ replies later never. stays k (booted parts memory stack) replies later never;
+  answered = λ replies r later q is. answered k (booted parts memory stack) replies r later q is;
 }
