@@ -1,4 +1,3 @@
 pub mod DecodedLaws
 pub mod RunLaws
-pub mod KnownResults
 pub mod KnownRuns
