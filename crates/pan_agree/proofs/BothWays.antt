@@ -1,8 +1,8 @@
 -- From the forward direction to all of the agreement: a law of any source and any machine whose longer runs go on from the shorter ones.
-use Rattle.std.proofs.Common.{◌≡◌, ◌≢◌, ℕ, ◌+◌, ◌-◌, ◌≤◌, ◌<◌, sym, ap, ◌∙◌, subst, List, [], ◌++◌, append_assoc, arith, inl, inr}
+use Rattle.std.proofs.Common.{◌≡◌, ◌≢◌, ℕ, ◌+◌, ◌-◌, ◌≤◌, ◌<◌, sym, ap, ◌∙◌, subst, arith, inl, inr}
 use Rattle.std.specs.Prelude.{◌⊎◌, IsTrue}
 use Rattle.std.proofs.lemmas.Bool.{false≢true}
-use Rattle.pan_base.specs.Events.{Event, Ending, Spent, Stack, Fails, Behaviour, IsPrefix}
+use Rattle.pan_base.specs.Events.{Ending, Spent, Stack, Fails, Behaviour, IsPrefix}
 use Rattle.pan_base.proofs.PrefixLaws.{prefix_refl, prefix_trans}
 use Rattle.pan_control.specs.Seen.{Seen}
 use Rattle.pan_agree.specs.Agree.{is_real, Overflows, DoesNoMore, Agree}

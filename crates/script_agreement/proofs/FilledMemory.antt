@@ -5,7 +5,7 @@ use Rattle.std.specs.Option.{ok_or, option_map}
 use Rattle.std.specs.Str.{bytes_eq}
 use Rattle.std.proofs.lemmas.Bool.{cases_lt}
 use Rattle.std.proofs.lemmas.Bool.Decides.{nat_tests}
-use Rattle.std.proofs.lemmas.List.{get_or_append_left, get_or-append_right, get_or-replicate, get_or_past, length-replicate, length-take-le, length-take}
+use Rattle.std.proofs.lemmas.List.{get_or-replicate, get_or_past, length-replicate, length-take-le, length-take}
 use Rattle.pan_base.specs.Spelling.{is_hex_digit, digit_value}
 use Rattle.pan_base.specs.Words.{IsBytes}
 use Rattle.riscv_isa.specs.Machine.{IsLawfulMemory}

@@ -3,3 +3,4 @@ pub mod Cut
 pub mod ScriptDevices
 pub mod Meeting
 pub mod FilledMemory
+pub mod OtherRuns

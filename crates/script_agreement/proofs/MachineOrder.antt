@@ -10,9 +10,10 @@ use Rattle.riscv_isa.specs.declared.place.Place.{Place}
 use Rattle.riscv_isa.specs.declared.place.Place.TheVariants as place
 use Rattle.riscv_isa.specs.declared.place.Region.TheVariants as region
 use Rattle.riscv_isa.specs.Regions.{is_in, place_of}
-use Rattle.riscv_isa.specs.Results.{loads, stores, plus}
+use Rattle.pan_base.specs.Results.{loads, stores, plus}
 use Rattle.pan_base.specs.Words.{compare}
 use Rattle.riscv_isa.specs.Step.{State, Config, act, act_some, decoded_some, ended, fetched, foreign, jump, linked, load, reg, request_of, resumed, step, store}
+use Rattle.riscv_isa.specs.Running as running
 use Rattle.riscv_isa.specs.Running.{Runs, Waits, Over, taken}
 use Rattle.riscv_isa.specs.Image.{ImageParts}
 use Rattle.riscv_isa.specs.Machine.{continue, run, booted, machine}
@@ -111,7 +112,7 @@ uses_on (Waits p s) f own u [] = record { left = []; all = refl; ends = refl }
 uses_on (Waits p s) f own u (r ∷ replies) = uses_taken (fits (request_of p s) r) (request_of p s) r replies _ (u (resumed p s r) replies)
 
 uses : (k : ℕ) (s : State) (replies : List Replied) → Uses replies (run k s replies)
-unfolding run
+unfolding running.run
 uses zero s replies = record { left = replies; all = refl; ends = tt }
 uses (suc k) s replies = uses_on (step s) (run k) (own_step s) (λ t rs. uses k t rs) replies
 
@@ -132,7 +133,7 @@ stays_on (Waits p s) f h [] later never = absurd (never (request_of p s) refl)
 stays_on (Waits p s) f h (r ∷ replies) later never = taken_stays (fits (request_of p s) r) (request_of p s) r _ _ (h (resumed p s r) replies later) never
 
 stays : (k : ℕ) (s : State) (replies later : List Replied) → NeverAsks (run k s replies) → run k s (replies ++ later) ≡ run k s replies
-unfolding run
+unfolding running.run
 stays zero s replies later never = refl
 stays (suc k) s replies later never = stays_on (step s) (run k) (λ t rs more h. stays k t rs more h) replies later never
 
@@ -178,7 +179,7 @@ answered_on (Waits p s) f own h [] r later = λ q is.
 answered_on (Waits p s) f own h (r' ∷ replies) r later = answered_taken (fits (request_of p s) r') (request_of p s) r' r _ _ (h (resumed p s r') replies r later)
 
 answered : (k : ℕ) (s : State) (replies : List Replied) (r : Replied) (later : List Replied) → AnsweredNext r (run k s replies) (run k s (replies ++ r ∷ later))
-unfolding run
+unfolding running.run
 answered zero s replies r later = λ q is. absurd (cc)
 answered (suc k) s replies r later = answered_on (step s) (run k) (own_step s) (λ t rs x more. answered k t rs x more) replies r later
 
