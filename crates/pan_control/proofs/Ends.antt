@@ -1,8 +1,10 @@
 -- Control structure alone ends no run in a fault or for want of a stack.
 use Rattle.std.proofs.Common.{◌≢◌, ℕ, zero, suc, List, [], ◌∷◌, Option, Some, None, Bool, true, false}
-use Rattle.pan_base.specs.Events.{Asked, Replied, Ending, Spent, Stack, Fault, Fails, Asks, Stopped, fits}
+use Rattle.pan_base.specs.Events.{Asked, Foreign, Replied, Ending, Spent, Stack, Fault, Fails, Asks, Stopped, fits}
 use Rattle.pan_control.specs.World.{World, leaving, back_in}
 use Rattle.pan_control.specs.Control.{Outcome, Normal, Broken, Continued, Returned, Raised, Over, Meaning, Callee, and_then, in_turn, with_value, where_true, if_not_zero, spend_of, ask_fit, ask_of, ask, after_body, turn, turns, after_call, call, tail_call, left, on_variables}
+use Rattle.pan_control.specs.Memory.{bytes_at}
+use Rattle.pan_control.specs.Runs.{with_reply, foreign, tested_again, nested, exit_of, seen}
 
 -- neither a fault nor the end of a stack
 pub record IsHigh (e : Ending) : Type 0 where
@@ -82,7 +84,18 @@ module _ {V X G : Type 0} where
   pub ask_high : (q : Asked) (w : World G) (go : Replied → World G → Outcome G V X) → ((r : Replied) (w : World G) → EndsHigh (go r w)) → EndsHigh (ask q w go)
   ask_high q w go h = asks_high w.replies q w go h
 
+  pub foreign_high : (i : ℕ) (name : List ℕ) (conf conf_len array array_len : ℕ) → RunsHigh (foreign {V = V} {X = X} {G = G} i name conf conf_len array array_len)
+  foreign_high i name a l b n v w = value_high (bytes_at w.memory a l) w _ (λ x. value_high (bytes_at w.memory b n) w _ (λ y. ask_high (Foreign i name x y) w _ (λ r w. record { over = tt })))
+
   -- ---- loops
+
+  pub tested_high : (weight : V → ℕ) (o : Outcome G V X) → EndsHigh o → EndsHigh (tested_again weight o)
+  tested_high weight (Normal v w) h = record { over = tt }
+  tested_high weight (Broken v w) h = record { over = tt }
+  tested_high weight (Continued v w) h = record { over = tt }
+  tested_high weight (Returned x w) h = record { over = tt }
+  tested_high weight (Raised i x w) h = record { over = tt }
+  tested_high weight (Over e w) h = record { over = h.over }
 
   body_high : (o : Outcome G V X) (again : Meaning G V X) → EndsHigh o → RunsHigh again → EndsHigh (after_body o again)
   body_high (Normal v w) m h hm = hm v w
@@ -132,3 +145,21 @@ on_high f (Over e w) h = record { over = h.over }
 
 pub tail_high : (V : Type 0) {A X G : Type 0} (c : Callee G A X) (f : ℕ) (arguments : Option A) (w : World G) → CallsHigh c → EndsHigh (tail_call {V = V} c f arguments w)
 tail_high V c f arguments w hc = value_high arguments w _ (λ a. spend_of_high w.fuel w _ (λ w. left_high V (c f a (leaving w)) (hc f a (leaving w))))
+
+pub nested_high : {A X G : Type 0} (enter : ℕ → Callee G A X → Callee G A X) → ((d : ℕ) (c : Callee G A X) → CallsHigh c → CallsHigh (enter d c)) → (d : ℕ) → CallsHigh (nested enter d)
+nested_high enter h zero f a w = record { over = spent }
+nested_high enter h (suc d) f a w = h d (nested enter d) (nested_high enter h d) f a w
+
+-- ---- what is seen
+
+exit_high : (o : Option ℕ) → IsHigh (exit_of o)
+exit_high None = failed
+exit_high (Some n) = record { no_fault = λ e. cc; no_stack = λ e. cc }
+
+pub seen_high : {X G : Type 0} (word : X → Option ℕ) (o : Outcome G (Unit {0}) X) → EndsHigh o → IsHigh (((seen word o).behaviour).ending)
+seen_high word (Normal v w) h = failed
+seen_high word (Broken v w) h = failed
+seen_high word (Continued v w) h = failed
+seen_high word (Returned x w) h = exit_high (word x)
+seen_high word (Raised i x w) h = record { no_fault = λ e. cc; no_stack = λ e. cc }
+seen_high word (Over e w) h = h.over
