@@ -63,8 +63,7 @@ pub jumps_far : (s : State) (rd by to : ℕ) → AreAt (instr.U Auipc by (high_o
 jumps_far s rd by to held some below from there whole =
     let t = on_the_way s by to in
     let target : plus (reg t by) (low_of s.pc to) / 2 * 2 ≡ to = ap (λ n. n / 2 * 2) (way_there s by to some below from there) ∙ halves to whole in
-    let after : s.pc + 4 + 4 ≡ s.pc + 8 = omega arith in
-    (
+    let after : s.pc + 4 + 4 ≡ s.pc + 8 = omega arith in (
       t,
       stepped s (instr.U Auipc by (high_of s.pc to)) held.0,
       (
@@ -80,8 +79,7 @@ pub makes_address : (s : State) (rd to : ℕ) → AreAt (instr.U Auipc rd (high_
     → Leads step 2 s (record (with_reg (with_reg s rd (halfway s.pc to)) rd to) { pc = s.pc + 8 })
 makes_address s rd to held some below from there =
     let t = on_the_way s rd to in
-    let after : s.pc + 4 + 4 ≡ s.pc + 8 = omega arith in
-    (
+    let after : s.pc + 4 + 4 ≡ s.pc + 8 = omega arith in (
       t,
       stepped s (instr.U Auipc rd (high_of s.pc to)) held.0,
       (
@@ -96,9 +94,8 @@ makes_address s rd to held some below from there =
 -- JAL jumps as far as its immediate goes, and links
 pub jumps_near : (s : State) (rd to : ℕ) → IsAt (instr.Jal rd (way s.pc to)) s.code s.pc → IsNear s.pc → IsNear to → to % 4 ≡ 0
     → Leads step 1 s (record (with_reg s rd (s.pc + 4)) { pc = to })
-jumps_near s rd to held from there whole =
-    (
-      record (with_reg s rd (s.pc + 4)) { pc = to },
-      stepped s (instr.Jal rd (way s.pc to)) held ∙ jumped (plus s.pc (way s.pc to)) to (linked rd s) (gone s.pc to from there) whole,
-      refl,
-    )
+jumps_near s rd to held from there whole = (
+  record (with_reg s rd (s.pc + 4)) { pc = to },
+  stepped s (instr.Jal rd (way s.pc to)) held ∙ jumped (plus s.pc (way s.pc to)) to (linked rd s) (gone s.pc to from there) whole,
+  refl,
+)
