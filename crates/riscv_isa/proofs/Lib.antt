@@ -5,6 +5,7 @@ pub mod Spelling
 pub mod KnownRuns
 pub mod Ranges
 pub mod Places
+pub mod WayLaws
 pub mod Fixed
 pub mod SoundLaws
 pub mod Memories

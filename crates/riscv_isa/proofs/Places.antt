@@ -40,3 +40,17 @@ pub record GoesOut (addr size : ℕ) : Type 0 where
 pub window_is : (d : Memory) (addr size : ℕ) → place_of d addr size ≡ Window → GoesOut addr size
 unfolding place_of
 window_is d addr size h = record { whole = grind (arith, nat_tests); from = grind (arith, nat_tests); to = grind (arith, nat_tests) }
+
+-- ---- exactly there
+
+pub placed_exactly : (r : Region) (d : Memory) (addr size : ℕ) → AreApart d → 0 < size → (place_of d addr size ≡ In r (addr - begin r)) ↔ ((addr % size ≡ 0) × IsInside r d addr size)
+placed_exactly r d addr size apart some = (
+  λ is. let g = place_is r d addr size (addr - begin r) is in (g.whole, g.inside),
+  λ h. placed r d addr size apart some h.0 h.1,
+)
+
+pub windowed_exactly : (d : Memory) (addr size : ℕ) → AreApart d → 0 < size → (place_of d addr size ≡ Window) ↔ ((addr % size ≡ 0) × (0x40000000 ≤ addr) × (addr + size ≤ 0x80000000))
+windowed_exactly d addr size apart some = (
+  λ is. let g = window_is d addr size is in (g.whole, g.from, g.to),
+  λ h. in_window d addr size apart some h.0 h.1 h.2,
+)

@@ -1,10 +1,10 @@
 -- Steps keep states sound.
-use Rattle.std.proofs.Common.{◌≡◌, ℕ, ℤ, pos, negsuc, ◌+◌, ◌-◌, ◌*◌, ◌/◌, ◌%◌, ◌^◌, ◌<◌, ◌≤◌, zero, suc, refl, sym, ap, ◌∙◌, subst, List, length, take, drop, Bool, true, false, eqb, leb, cond, Option, Some, None, get_or, arith, inl, inr}
+use Rattle.std.proofs.Common.{◌≡◌, ℕ, ℤ, pos, negsuc, ◌+◌, ◌-◌, ◌*◌, ◌/◌, ◌%◌, ◌^◌, ◌<◌, ◌≤◌, zero, suc, refl, sym, ap, ◌∙◌, subst, List, [], length, take, drop, replicate, Bool, true, false, eqb, leb, cond, Option, Some, None, arith, inl, inr}
 use Rattle.std.specs.Prelude.{◌≤ℤ◌, ◌&&◌, nat_lt, nat_le, slice_index, slice_set}
 use Rattle.std.specs.List.{list_all}
 use Rattle.std.specs.Int.{w32, from_le_bytes}
 use Rattle.std.proofs.lemmas.Bool.{and_parts, leb-true, ltb-true, cases_lt, cases_eq}
-use Rattle.std.proofs.lemmas.List.{get_or-set_same, get_or-set_other, get_or_past, length-set}
+use Rattle.std.proofs.lemmas.List.{get_or-set_same, get_or-set_other, get_or_past, length-set, length-replicate}
 use Rattle.pan_base.specs.declared.events.Size.{Size}
 use Rattle.pan_base.specs.declared.events.Size.TheVariants.{B4}
 use Rattle.pan_base.specs.declared.operators.LOp.{LOp}
@@ -21,13 +21,15 @@ use Rattle.riscv_isa.specs.declared.pending.Pending.TheVariants as pending
 use Rattle.riscv_isa.specs.declared.place.Place.{Place}
 use Rattle.riscv_isa.specs.declared.place.Place.TheVariants as place
 use Rattle.riscv_isa.specs.declared.place.Region.{Region}
-use Rattle.riscv_isa.specs.declared.place.Region.TheVariants.{Local}
+use Rattle.riscv_isa.specs.declared.place.Region.TheVariants.{Block, Globals, Local, Stack}
 use Rattle.riscv_isa.specs.Held.{word_at}
 use Rattle.riscv_isa.specs.Decoded.{decoded}
 use Rattle.riscv_isa.specs.Regions.{bytes_of, with_bytes, place_of}
 use Rattle.riscv_isa.specs.Running.{Leads}
 use Rattle.riscv_isa.specs.Sound.{IsSound, IsFixed, GoesOnIn}
 use Rattle.riscv_isa.specs.Step.{State, Config, Runs, Waits, Over, reg, with_reg, next, jump, linked, load, store, foreign, ecall, ended, act, act_some, decoded_some, fetched, step, request_of, resumed, loaded, replaced}
+use Rattle.riscv_isa.specs.Image.{ImageParts, IsLawfulImage}
+use Rattle.riscv_isa.specs.Machine.{booted, IsLawfulMemory, IsLawfulStack}
 use Rattle.riscv_isa.specs.Table.{InRange}
 use Rattle.riscv_isa.proofs.Fixed.{same, act_fixes, AreBytesFor}
 use Rattle.riscv_isa.proofs.Memories.{everywhere, stay_apart, all_bytes}
@@ -203,3 +205,41 @@ step_sound s h = act_fetched (fetched s) (decoded_some (fetched s)) s h refl ref
 pub leads_sound : (n : ℕ) (s t : State) → IsSound s → Leads step n s t → IsSound t
 leads_sound zero s t h e = subst IsSound e h
 leads_sound (suc n) s t h (u, is, more) = leads_sound n u t (subst (GoesOnIn IsSound) is (step_sound s h)) more
+
+-- ---- the start
+
+zero_words : (n j : ℕ) → IsWord (slice_index (replicate n 0) j)
+zero_words zero j = omega arith
+zero_words (suc n) zero = omega arith
+zero_words (suc n) (suc j) = zero_words n j
+
+zero_bytes : (n j : ℕ) → slice_index (replicate n 0) j < 256
+zero_bytes zero j = omega arith
+zero_bytes (suc n) zero = omega arith
+zero_bytes (suc n) (suc j) = zero_bytes n j
+
+-- the registers with the end of the stack
+abbrev with_end : ℕ → List ℕ
+with_end stack = slice_set (replicate 32 0) 2 (0x20000000 + stack)
+
+pub booted_sound : (parts : ImageParts) (memory : List ℕ) (stack : ℕ) → IsLawfulImage parts → IsLawfulMemory memory → IsLawfulStack stack → IsSound (booted parts memory stack)
+booted_sound parts memory stack image local room = record {
+  count = refl;
+  words = set_words (slice_set (with_end stack) 3 0x08000000) 4 0x20000000 (set_words (with_end stack) 3 0x08000000 (set_words (replicate 32 0) 2 (0x20000000 + stack) (zero_words 32) (let h = room.most in omega arith)) (omega arith)) (omega arith);
+  pc = omega arith;
+  most = image.most;
+  code = image.bytes;
+  apart = record {
+    block = omega arith;
+    globals = omega arith;
+    local = let h = local.most in omega arith;
+    stack = let h = room.most in omega (arith, length-replicate {A = ℕ} stack 0);
+  };
+  bytes = by_region;
+}
+  where
+    by_region : (r : Region) → IsBytes (bytes_of r (booted parts memory stack).memory)
+    by_region Block = zero_bytes 1024
+    by_region Globals = λ j. omega arith
+    by_region Local = local.bytes
+    by_region Stack = zero_bytes stack

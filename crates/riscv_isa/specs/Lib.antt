@@ -5,5 +5,6 @@ pub mod Regions
 pub mod Running
 pub mod Step
 pub mod Sound
+pub mod Ways
 pub mod Image
 pub mod Machine
