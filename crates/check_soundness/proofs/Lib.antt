@@ -6,3 +6,8 @@ pub mod Rules
 pub mod ShapedExprs
 pub mod Fitting
 pub mod OwnRules
+pub mod CheckedStmts
+pub mod Keeping
+pub mod Named
+pub mod OwnOfWhole
+pub mod SoundStmts
