@@ -5,6 +5,7 @@ use Rattle.std.specs.List.{list_any}
 use Rattle.std.specs.Option.{option_map_or}
 use Rattle.std.specs.Str.{bytes_eq}
 use Rattle.std.proofs.lemmas.List.Folds.{list_any-append}
+use Rattle.std.proofs.lemmas.Slice.Eq.{bytes_eq-Decides}
 use Rattle.pan_tree.specs.Scopes.{declare}
 use Rattle.pan_tree.specs.Check as check
 use Rattle.pan_tree.specs.Check.{Context, State, Doing, Done, in_order, do_layer, do_kind, doing, with_name, after_target, closes_layer, closes_kind, last_of}
@@ -36,12 +37,12 @@ declare_outer : (x : List ℕ) (a : Shape) (v : check.Scopes) → drop 1 (declar
 declare_outer x a [] = refl
 declare_outer x a (scope ∷ scopes) = refl
 
-target_outer : (t : Target) (a : Shape) (v : check.Scopes) → drop 1 (after_target t a v) ≡ drop 1 v
+pub target_outer : (t : Target) (a : Shape) (v : check.Scopes) → drop 1 (after_target t a v) ≡ drop 1 v
 target_outer target.Nothing a v = refl
 target_outer (target.Old x) a v = refl
 target_outer (target.New x) a v = declare_outer x a v
 
-handle_scopes : (h : Option (HandlerOf (Spanned Doing))) (c : Context) (s : State) → ((check.handle h c s).state).scopes ≡ s.scopes
+pub handle_scopes : (h : Option (HandlerOf (Spanned Doing))) (c : Context) (s : State) → ((check.handle h c s).state).scopes ≡ s.scopes
 handle_scopes None c s = refl
 handle_scopes (Some h) c s = refl
 
@@ -96,6 +97,14 @@ name_kept x names = record { at = λ y h. by y (has_name x names) h }
     by : (y : List ℕ) (b : Bool) → has_name y names ≡ true → has_name y (if b then names else (names ++ x ∷ [])) ≡ true
     by y true h = h
     by y false h = list_any-append (λ z. bytes_eq z y) names (x ∷ []) ∙ ap (λ b. b || has_name y (x ∷ [])) h
+
+-- the name itself is among them then
+pub own_name : (x : List ℕ) (names : List (List ℕ)) → has_name x (with_name x names) ≡ true
+own_name x names = by (has_name x names) refl
+  where
+    by : (b : Bool) → has_name x names ≡ b → has_name x (if b then names else (names ++ x ∷ [])) ≡ true
+    by true h = h
+    by false h = list_any-append (λ z. bytes_eq z x) names (x ∷ []) ∙ ap (λ b. b || has_name x (x ∷ [])) h ∙ ap (λ b. b || false) ((bytes_eq-Decides x x).1 refl)
 
 abbrev Grows : StmtKind → Type 0
 Grows k = (c : Context) (place : ℕ) (s : State) → Among s.names ((do_kind k c place s).state).names

@@ -128,13 +128,13 @@ module _ {V X : Type 0} (Q : X → Type 0) (E : ℕ → X → Type 0) where
           → Keeps N B Q E (tail_call callee f arguments w) (tail_call callee' f arguments w)
       tail_keeps callee callee' f arguments w c g = with_keeps arguments w _ _ (λ a is. spend_keeps w _ _ (λ inner. left_keeps (callee f a (leaving inner)) (callee' f a (leaving inner)) (c a (leaving inner) is) g))
 
-  -- ---- loops
+  -- ---- loops, which end where their body breaks
 
-  module _ (N : V → Type 0) where
-    after_body_keeps : (o o' : Outcome V X) (m m' : Meaning V X) → Keeps N N Q E o o' → ((v : V) (w : World) → N v → Keeps N N Q E (m v w) (m' v w)) → Keeps N N Q E (after_body o m) (after_body o' m')
-    after_body_keeps o o' m m' k h = subst (λ (r : Outcome V X). Keeps N N Q E (after_body r m) (after_body o' m')) (sym k.same) (by o' k.so)
+  module _ (N C : V → Type 0) where
+    after_body_keeps : (o o' : Outcome V X) (m m' : Meaning V X) → Keeps N N Q E o o' → ((v : V) (w : World) → N v → Keeps N C Q E (m v w) (m' v w)) → Keeps N C Q E (after_body o m) (after_body o' m')
+    after_body_keeps o o' m m' k h = subst (λ (r : Outcome V X). Keeps N C Q E (after_body r m) (after_body o' m')) (sym k.same) (by o' k.so)
       where
-        by : (o : Outcome V X) → Leaves N N Q E o → Keeps N N Q E (after_body o m) (after_body o m')
+        by : (o : Outcome V X) → Leaves N N Q E o → Keeps N C Q E (after_body o m) (after_body o m')
         by (Normal v w) n = h v w n
         by (Broken v w) n = record { same = refl; so = n }
         by (Continued v w) n = h v w n
@@ -144,12 +144,12 @@ module _ {V X : Type 0} (Q : X → Type 0) (E : ℕ → X → Type 0) where
 
     -- before each test the first tries what then holds
     module _ (before : Meaning V X) (test : V → World → Option ℕ) (body body' : Meaning V X) (tried : (v : V) (w : World) → N v → before v w ≡ Normal v w) (does : (v : V) (w : World) → N v → Keeps N N Q E (body v w) (body' v w)) where
-      turn_keeps : (again again' : Meaning V X) → ((v : V) (w : World) → N v → Keeps N N Q E (again v w) (again' v w)) → (v : V) (w : World) → N v → Keeps N N Q E (turn before test body again v w) (turn (λ v w. Normal v w) test body' again' v w)
+      turn_keeps : (again again' : Meaning V X) → ((v : V) (w : World) → N v → Keeps N C Q E (again v w) (again' v w)) → (v : V) (w : World) → N v → Keeps N C Q E (turn before test body again v w) (turn (λ v w. Normal v w) test body' again' v w)
       turn_keeps again again' h v w n =
           let go = λ (v : V) (w : World). with_value (test v w) w (λ k. if_not_zero k (spend w (λ w. after_body (body v w) again)) (Normal v w)) in
-          subst (λ (r : Outcome V X). Keeps N N Q E (and_then r go) (turn (λ v w. Normal v w) test body' again' v w)) (sym (tried v w n))
-          (with_keeps N N (test v w) w _ _ (λ k is. choice_keeps N N k _ _ _ _ (spend_keeps N N w _ _ (λ w. after_body_keeps (body v w) (body' v w) again again' (does v w n) h)) (record { same = refl; so = n })))
+          subst (λ (r : Outcome V X). Keeps N C Q E (and_then r go) (turn (λ v w. Normal v w) test body' again' v w)) (sym (tried v w n))
+          (with_keeps N C (test v w) w _ _ (λ k is. choice_keeps N C k _ _ _ _ (spend_keeps N C w _ _ (λ w. after_body_keeps (body v w) (body' v w) again again' (does v w n) h)) (record { same = refl; so = n })))
 
-      pub turns_keeps : (d : ℕ) (v : V) (w : World) → N v → Keeps N N Q E (turns d before test body v w) (turns d (λ v w. Normal v w) test body' v w)
+      pub turns_keeps : (d : ℕ) (v : V) (w : World) → N v → Keeps N C Q E (turns d before test body v w) (turns d (λ v w. Normal v w) test body' v w)
       turns_keeps zero v w n = turn_keeps (λ v w. Over Spent w) (λ v w. Over Spent w) (λ v w n. record { same = refl; so = tt }) v w n
       turns_keeps (suc d) v w n = turn_keeps _ _ (turns_keeps d) v w n
