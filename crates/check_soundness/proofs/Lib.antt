@@ -11,3 +11,5 @@ pub mod Keeping
 pub mod Named
 pub mod OwnOfWhole
 pub mod SoundStmts
+pub mod ShapedValues
+pub mod SoundPrograms

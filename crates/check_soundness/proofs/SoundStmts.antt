@@ -122,9 +122,13 @@ module _ (ill : Ending) (p : Program) (result : Shape) (d : ℕ) (callee' callee
   abbrev pub Does-alike : (Scopes → Type 0) → (Scopes → Type 0) → Outcome Scopes Value → Outcome Scopes Value → Type 0
   Does-alike M C o o' = Keeps M C (HasShape result) (Thrown p) o o'
 
+  -- what the check makes of a statement, whether it closes, and what it does
+  abbrev pub SoundAs : Doing → Bool → Does → Does → Type 0
+  SoundAs checked closes guarded real = (l : Bool) (place : ℕ) (s : State) (v : Scopes) (w : World) → let done = checked (context l) place s in
+      Fits s.scopes v → done.breaks ≡ [] → Among (done.state).names (foreign_names p) → Does-alike (N (done.state).scopes closes) (B l s.scopes) (guarded v w) (real v w)
+
   abbrev pub IsSound : StmtKind → Type 0
-  IsSound k = (l : Bool) (place : ℕ) (s : State) (v : Scopes) (w : World) → let done = do_kind k (context l) place s in
-      Fits s.scopes v → done.breaks ≡ [] → Among (done.state).names (foreign_names p) → Does-alike (N (done.state).scopes (closes_kind k)) (B l s.scopes) (guard k v w) (run k v w)
+  IsSound k = SoundAs (do_kind k) (closes_kind k) (guard k) (run k)
 
   abbrev Known : Type 0
   Known = (k : StmtKind) × IsSound k
@@ -480,3 +484,34 @@ module _ (ill : Ending) (p : Program) (result : Shape) (d : ℕ) (callee' callee
         with_keeps (HasShape result) (Thrown p) M C (word g v w.memory) w _ _ (λ array is. with_keeps (HasShape result) (Thrown p) M C (word e v w.memory) w _ _ (λ array_len is.
         with_keeps (HasShape result) (Thrown p) M C (bytes_at w.memory conf conf_len) w _ _ (λ first is. with_keeps (HasShape result) (Thrown p) M C (bytes_at w.memory array array_len) w _ _ (λ second is.
         ask_keeps (HasShape result) (Thrown p) M C (Foreign i x first second) w _ (λ r w'. (f, refl)))))))))
+
+  -- the guard of a layer holds, and what it then does takes the work of the statement
+  acts : (place : ℕ) (l : Bool) (s : State) (y : StmtKind-F Does) (v : Scopes) (w : World) → guarded_act ill p result d callee' y v w ≡ tried_act l place s y v (tolled (own_weight p y v) w)
+  acts place l s (stmt.While e body) v w = refl
+  acts place l s y v w = refl
+
+  layer_sound : (y : StmtKind-F Known) → let x = map-StmtKind Known StmtKind (λ c. c.0) y in
+      SoundAs (do_layer (map-StmtKind StmtKind Doing do_kind x)) (closes_layer (map-StmtKind StmtKind Bool closes_kind x)) (guarded_layer ill p result d callee' (map-StmtKind StmtKind Does guard x)) (run_layer p d callee (map-StmtKind StmtKind Does run x))
+  layer_sound y l place s v w f b names =
+      let x = map-StmtKind Known StmtKind (λ c. c.0) y in
+      let gs = map-StmtKind StmtKind Does guard x in
+      let rs = map-StmtKind StmtKind Does run x in
+      let kept = λ (v : Scopes) (f : Fits s.scopes v). nothing_broken l place s x v f b names in
+      keeps_as (HasShape result) (Thrown p) _ (B l s.scopes) (guarded_layer ill p result d callee' gs v w) (tried_act l place s gs v (tolled (own_weight p x v) w)) (run_layer p d callee rs v w) (act_layer p d callee rs v (tolled (own_weight p x v) w))
+      (ap (λ c. unless_ill ill c w (guarded_act ill p result d callee' gs v w)) (kept v f) ∙ acts place l s gs v w ∙ ap (λ n. tried_act l place s gs v (tolled n w)) (own_weight_same guard p x v))
+      (ap (λ n. act_layer p d callee rs v (tolled n w)) (own_weight_same run p x v))
+      (act_sound l place s y kept v (tolled (own_weight p x v) w) f b names)
+
+  pub kind_sound : (k : StmtKind) → IsSound k
+  kind_sound = by_layers IsSound (λ y.
+      let x = map-StmtKind Known StmtKind (λ c. c.0) y in
+      let k = roll-StmtKind x in
+      subst (λ (f : Doing). SoundAs f (closes_kind k) (guard k) (run k)) (sym (do_roll x))
+      (subst (λ c. SoundAs (do_layer (map-StmtKind StmtKind Doing do_kind x)) c (guard k) (run k)) (sym (closes_roll x))
+      (subst (λ (g : Does). SoundAs (do_layer (map-StmtKind StmtKind Doing do_kind x)) (closes_layer (map-StmtKind StmtKind Bool closes_kind x)) g (run k)) (sym (guard_roll x))
+      (subst (λ (r : Does). SoundAs (do_layer (map-StmtKind StmtKind Doing do_kind x)) (closes_layer (map-StmtKind StmtKind Bool closes_kind x)) (guarded_layer ill p result d callee' (map-StmtKind StmtKind Does guard x)) r) (sym (run_roll p d callee x))
+      (layer_sound y)))))
+
+  pub all_sound : (ss : List (Spanned StmtKind)) → AllSound ss
+  all_sound [] = tt
+  all_sound (s ∷ ss) = (kind_sound s.kind, all_sound ss)
