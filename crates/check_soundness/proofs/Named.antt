@@ -7,7 +7,7 @@ use Rattle.std.proofs.lemmas.Bool.Decides.{nat_tests}
 use Rattle.std.proofs.lemmas.List.Folds.{find_at}
 use Rattle.std.proofs.lemmas.Option.{slice_get_within}
 
-less_true : (i n : ℕ) → i < n → nat_lt i n ≡ true
+pub less_true : (i n : ℕ) → i < n → nat_lt i n ≡ true
 less_true i n h = grind (arith, nat_tests)
 
 pub position_is : {X : Type 0} (p : X → Bool) (xs : List X) (i : ℕ) → position p xs ≡ Some i → slice_get xs i ≡ find p xs
