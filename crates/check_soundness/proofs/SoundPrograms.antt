@@ -19,13 +19,13 @@ use Rattle.pan_tree.specs.declared.syntax.StmtKind.{StmtKind}
 use Rattle.pan_tree.specs.declared.program.Param.{Param}
 use Rattle.pan_tree.specs.declared.program.Function.{Function}
 use Rattle.pan_tree.specs.declared.program.Program.{Program}
-use Rattle.check_soundness.specs.Guarded.{unless_ill, with_sound, soundly_left, guarded_kind, guarded_body, guarded_calls, word_left, guarded}
+use Rattle.check_soundness.specs.Guarded.{unless_ill, with_sound, soundly_left, guarded_kind, guarded_body, guarded_calls, word_left, guarded, seen_so}
 use Rattle.check_soundness.proofs.Rules.{unbroken, append_none, neither, not_false}
 use Rattle.check_soundness.proofs.Fitting.{Fits, fits_more, ArgumentsFit, bound}
 use Rattle.check_soundness.proofs.CheckedStmts.{Among, among_same, among_then, order_names}
 use Rattle.check_soundness.proofs.Named.{found_at, less_true}
 use Rattle.check_soundness.proofs.ShapedValues.{shaped_value, word_value}
-use Rattle.check_soundness.proofs.Keeping.{Leaves, Keeps}
+use Rattle.check_soundness.proofs.Keeping.{Leaves, instead, Keeps}
 use Rattle.check_soundness.proofs.SoundStmts.{Thrown, HasShape, SoundCallee, list_closes, guard, run, guards, does, context, N, B, order_sound, all_sound}
 
 -- ---- what the check says of each function
@@ -69,53 +69,53 @@ all_kept p (f ∷ fs) names b a (suc i) g h = all_kept p fs ((body p f names).st
 
 -- ---- bodies
 
-module _ (ill : Ending) (p : Program) where
+module _ (ill halt : Ending) (p : Program) where
   -- what a body leaves, where it closes and stands in no loop
   left_soundly : (f : Function) (t : check.Scopes) (closing : Bool) (o o' : Outcome Scopes Value) → closing ≡ true
-      → Keeps (λ (v : Scopes). Fits t v × (closing ≡ false)) (λ (v : Scopes). (false ≡ true) × Fits [] (drop 1 v)) (HasShape f.result) (Thrown p) o o' → Keeps {V = Unit {0}} (λ u. ⊥) (λ u. ⊥) (HasShape f.result) (Thrown p) (soundly_left ill f.result o) (left o')
-  left_soundly f t closing o o' c k = subst (λ (r : Outcome Scopes Value). Keeps {V = Unit {0}} (λ u. ⊥) (λ u. ⊥) (HasShape f.result) (Thrown p) (soundly_left ill f.result r) (left o')) (sym k.same) (by o' k.so)
+      → Keeps halt (λ (v : Scopes). Fits t v × (closing ≡ false)) (λ (v : Scopes). (false ≡ true) × Fits [] (drop 1 v)) (HasShape f.result) (Thrown p) o o' → Keeps halt {V = Unit {0}} (λ u. ⊥) (λ u. ⊥) (HasShape f.result) (Thrown p) (soundly_left ill halt f.result o) (left o')
+  left_soundly f t closing o o' c k = subst (λ (r : Outcome Scopes Value). Keeps halt {V = Unit {0}} (λ u. ⊥) (λ u. ⊥) (HasShape f.result) (Thrown p) (soundly_left ill halt f.result r) (left o')) (sym k.same) (by o' k.so)
     where
       by : (o : Outcome Scopes Value) → Leaves (λ (v : Scopes). Fits t v × (closing ≡ false)) (λ (v : Scopes). (false ≡ true) × Fits [] (drop 1 v)) (HasShape f.result) (Thrown p) o
-          → Keeps {V = Unit {0}} (λ u. ⊥) (λ u. ⊥) (HasShape f.result) (Thrown p) (soundly_left ill f.result o) (left o)
+          → Keeps halt {V = Unit {0}} (λ u. ⊥) (λ u. ⊥) (HasShape f.result) (Thrown p) (soundly_left ill halt f.result (instead halt o)) (left o)
       by (Normal v w) h = let no : true ≡ false = sym c ∙ h.1 in absurd cc
       by (Broken v w) h = let no : false ≡ true = h.0 in absurd cc
       by (Continued v w) h = let no : false ≡ true = h.0 in absurd cc
-      by (Returned x w) h = record { same = ap (λ b. unless_ill ill b w (Returned x w)) (shaped_value f.result x h); so = h }
+      by (Returned x w) h = record { same = ap (λ b. unless_ill ill halt b w (Returned x w)) (shaped_value f.result x h); so = h }
       by (Raised i x w) h = record { same = refl; so = h }
       by (Over e w) h = record { same = refl; so = tt }
 
-  module _ (d : ℕ) (callee' callee : Callee (List Value) Value) (callees : SoundCallee p callee' callee) where
-    each_guard : (r : Shape) (ss : List (Spanned StmtKind)) → map (λ (s : Spanned StmtKind). guarded_kind ill p r d callee' s.kind) ss ≡ map (λ (s : Spanned Does). s.kind) (map (guards ill p r d callee' callee callees) ss)
+  module _ (d : ℕ) (callee' callee : Callee (List Value) Value) (callees : SoundCallee halt p callee' callee) where
+    each_guard : (r : Shape) (ss : List (Spanned StmtKind)) → map (λ (s : Spanned StmtKind). guarded_kind ill halt p r d callee' s.kind) ss ≡ map (λ (s : Spanned Does). s.kind) (map (guards ill halt p r d callee' callee callees) ss)
     each_guard r [] = refl
-    each_guard r (s ∷ ss) = ap (λ ms. guarded_kind ill p r d callee' s.kind ∷ ms) (each_guard r ss)
+    each_guard r (s ∷ ss) = ap (λ ms. guarded_kind ill halt p r d callee' s.kind ∷ ms) (each_guard r ss)
 
-    each_run : (r : Shape) (ss : List (Spanned StmtKind)) → map (λ (s : Spanned StmtKind). run_kind p d callee s.kind) ss ≡ map (λ (s : Spanned Does). s.kind) (map (does ill p r d callee' callee callees) ss)
+    each_run : (r : Shape) (ss : List (Spanned StmtKind)) → map (λ (s : Spanned StmtKind). run_kind p d callee s.kind) ss ≡ map (λ (s : Spanned Does). s.kind) (map (does ill halt p r d callee' callee callees) ss)
     each_run r [] = refl
     each_run r (s ∷ ss) = ap (λ ms. run_kind p d callee s.kind ∷ ms) (each_run r ss)
 
-    body_sound : (f : Function) → Kept p f → (xs : List Value) (w : World) → ArgumentsFit f.params xs → Keeps {V = Unit {0}} (λ u. ⊥) (λ u. ⊥) (HasShape f.result) (Thrown p) (guarded_body ill p d callee' f xs w) (body_of p d callee f xs w)
+    body_sound : (f : Function) → Kept p f → (xs : List Value) (w : World) → ArgumentsFit f.params xs → Keeps halt {V = Unit {0}} (λ u. ⊥) (λ u. ⊥) (HasShape f.result) (Thrown p) (guarded_body ill halt p d callee' f xs w) (body_of p d callee f xs w)
     body_sound f kept xs w fit =
         let b = bound f.params xs fit in
         let ss = (f.body).stmts in
         let begun = entered (cost p f) (tolled (entry_weight f) w) in
-        let guarded_on = λ (scope : Scope). soundly_left ill f.result (in_turn (map (λ (s : Spanned StmtKind). guarded_kind ill p f.result d callee' s.kind) ss) (scope ∷ []) begun) in
+        let guarded_on = λ (scope : Scope). soundly_left ill halt f.result (in_turn (map (λ (s : Spanned StmtKind). guarded_kind ill halt p f.result d callee' s.kind) ss) (scope ∷ []) begun) in
         let real_on = λ (scope : Scope). let o : Outcome (Unit {0}) Value = left (in_turn (map (λ (s : Spanned StmtKind). run_kind p d callee s.kind) ss) (scope ∷ []) begun) in o in
         let s : State = record { scopes = check.parameters f.params ∷ []; names = kept.names } in
-        let order = order_sound ill p f.result d callee' callee callees ss (all_sound ill p f.result d callee' callee callees ss) false s (b.scope ∷ []) begun
+        let order = order_sound ill halt p f.result d callee' callee callees ss (all_sound ill halt p f.result d callee' callee callees ss) false s (b.scope ∷ []) begun
             (fits_more (check.parameters f.params) b.scope [] [] b.shapes (record { same = refl })) kept.breaks kept.among in
-        subst (λ o. Keeps {V = Unit {0}} (λ u. ⊥) (λ u. ⊥) (HasShape f.result) (Thrown p) (with_sound ill o w guarded_on) (with_value o w real_on)) (sym b.is)
-        (subst (λ ms. Keeps {V = Unit {0}} (λ u. ⊥) (λ u. ⊥) (HasShape f.result) (Thrown p) (soundly_left ill f.result (in_turn ms (b.scope ∷ []) begun)) (real_on b.scope)) (sym (each_guard f.result ss))
-        (subst (λ ms. Keeps {V = Unit {0}} (λ u. ⊥) (λ u. ⊥) (HasShape f.result) (Thrown p) (soundly_left ill f.result (in_turn (map (λ (s : Spanned Does). s.kind) (map (guards ill p f.result d callee' callee callees) ss)) (b.scope ∷ []) begun)) (left (in_turn ms (b.scope ∷ []) begun))) (sym (each_run f.result ss))
-        (left_soundly f ((in_order (map doing ss) (context ill p f.result d callee' callee callees false) s).state).scopes (list_closes ss) _ _ kept.closes order)))
+        subst (λ o. Keeps halt {V = Unit {0}} (λ u. ⊥) (λ u. ⊥) (HasShape f.result) (Thrown p) (with_sound ill halt o w guarded_on) (with_value o w real_on)) (sym b.is)
+        (subst (λ ms. Keeps halt {V = Unit {0}} (λ u. ⊥) (λ u. ⊥) (HasShape f.result) (Thrown p) (soundly_left ill halt f.result (in_turn ms (b.scope ∷ []) begun)) (real_on b.scope)) (sym (each_guard f.result ss))
+        (subst (λ ms. Keeps halt {V = Unit {0}} (λ u. ⊥) (λ u. ⊥) (HasShape f.result) (Thrown p) (soundly_left ill halt f.result (in_turn (map (λ (s : Spanned Does). s.kind) (map (guards ill halt p f.result d callee' callee callees) ss)) (b.scope ∷ []) begun)) (left (in_turn ms (b.scope ∷ []) begun))) (sym (each_run f.result ss))
+        (left_soundly f ((in_order (map doing ss) (context ill halt p f.result d callee' callee callees false) s).state).scopes (list_closes ss) _ _ kept.closes order)))
 
   -- ---- programs
 
   module _ (keeps : (i : ℕ) (g : Function) → slice_get p.functions i ≡ Some g → Kept p g) where
-    calls_sound : (d : ℕ) → SoundCallee p (guarded_calls ill p d) (calls p d)
+    calls_sound : (d : ℕ) → SoundCallee halt p (guarded_calls ill halt p d) (calls p d)
     calls_sound zero = record { at = λ f g xs w is fit. record { same = refl; so = tt } }
     calls_sound (suc d) = record { at = λ f g xs w is fit.
-        subst (λ o. Keeps {V = Unit {0}} (λ u. ⊥) (λ u. ⊥) (HasShape g.result) (Thrown p) (with_sound ill o w (λ g. guarded_body ill p d (guarded_calls ill p d) g xs w)) (with_value o w (λ g. body_of p d (calls p d) g xs w))) (sym is)
-        (body_sound d (guarded_calls ill p d) (calls p d) (calls_sound d) g (keeps f g is) xs w fit) }
+        subst (λ o. Keeps halt {V = Unit {0}} (λ u. ⊥) (λ u. ⊥) (HasShape g.result) (Thrown p) (with_sound ill halt o w (λ g. guarded_body ill halt p d (guarded_calls ill halt p d) g xs w)) (with_value o w (λ g. body_of p d (calls p d) g xs w))) (sym is)
+        (body_sound d (guarded_calls ill halt p d) (calls p d) (calls_sound d) g (keeps f g is) xs w fit) }
 
   no_arguments : (f : Function) → nat_lt 0 (length f.params) ≡ false → ArgumentsFit f.params []
   no_arguments f h = by f.params h
@@ -124,14 +124,16 @@ module _ (ill : Ending) (p : Program) where
       by [] h = refl
       by (p ∷ ps) h = let no : true ≡ false = sym (less_true 0 (suc (length ps)) (omega arith)) ∙ h in absurd cc
 
-  word_is_left : (s : Shape) (o o' : Outcome (Unit {0}) Value) → is_word s ≡ true → Keeps {V = Unit {0}} (λ u. ⊥) (λ u. ⊥) (HasShape s) (Thrown p) o o' → word_left ill o ≡ o'
-  word_is_left s o o' h k = ap (word_left ill) k.same ∙ by o' k.so
+  word_is_left : (s : Shape) (o o' : Outcome (Unit {0}) Value) → is_word s ≡ true → Keeps halt {V = Unit {0}} (λ u. ⊥) (λ u. ⊥) (HasShape s) (Thrown p) o o' → seen (word_left ill halt o) ≡ seen_so halt (seen o')
+  word_is_left s o o' h k = ap (λ r. seen (word_left ill halt r)) k.same ∙ by o' k.so
     where
-      by : (o : Outcome (Unit {0}) Value) → Leaves {V = Unit {0}} (λ u. ⊥) (λ u. ⊥) (HasShape s) (Thrown p) o → word_left ill o ≡ o
-      by (Normal v w) q = refl
-      by (Broken v w) q = refl
-      by (Continued v w) q = refl
-      by (Returned x w) q = let n = word_value s x h q in ap (λ a. unless_ill ill (is_some (word_of a)) w (Returned x w)) n.1
+      by : (o : Outcome (Unit {0}) Value) → Leaves {V = Unit {0}} (λ u. ⊥) (λ u. ⊥) (HasShape s) (Thrown p) o → seen (word_left ill halt (instead halt o)) ≡ seen_so halt (seen o)
+      by (Normal v w) q = absurd q
+      by (Broken v w) q = absurd q
+      by (Continued v w) q = absurd q
+      by (Returned x w) q =
+          let n = word_value s x h q in
+          subst (λ a. seen (word_left ill halt (Returned a w)) ≡ seen_so halt (seen (Returned a w))) (sym n.1) refl
       by (Raised i x w) q = refl
       by (Over e w) q = refl
 
@@ -142,8 +144,8 @@ main_known (Some f) h =
     let both = neither (nat_lt 0 (length f.params)) (not (is_word f.result)) (unbroken f.span.start MainShape (nat_lt 0 (length f.params) || not (is_word f.result)) [] h).0 in
     (f, refl, both.0, not_false (is_word f.result) both.1)
 
-pub guarded_same : (ill : Ending) (p : Program) (m : List ℕ) (r : List Replied) (n : ℕ) → IsWellShaped p → guarded ill p m r n ≡ source p m r n
-guarded_same ill p m r n well =
+pub guarded_same : (ill halt : Ending) (p : Program) (m : List ℕ) (r : List Replied) (n : ℕ) → IsWellShaped p → guarded ill halt p m r n ≡ seen_so halt (source p m r n)
+guarded_same ill halt p m r n well =
     let heads = exception_heads [] p.exceptions ++ function_heads [] p.functions in
     let main_rules = main_breaks (function_of (codes "main") p) in
     let light = append_none (heads ++ main_rules ++ bodies p p.functions []) (weight_breaks p) well in
@@ -151,8 +153,8 @@ guarded_same ill p m r n well =
     let main = append_none heads main_rules rest.0 in
     let f = main_known (function_of (codes "main") p) main.1 in
     let at = found_at (λ (g : Function). bytes_eq g.name (codes "main")) p.functions f.0 f.1 in
-    let sound = calls_sound ill p (all_kept p p.functions [] rest.1 (among_same (foreign_names p))) (suc n) in
-    let k = sound.at at.number f.0 [] (start m r n) at.stands (no_arguments ill p f.0 f.2) in
-    ap (λ o. seen (word_left ill (with_sound ill o (start m r n) (λ i. guarded_calls ill p (suc n) i [] (start m r n))))) at.is
-    ∙ ap seen (word_is_left ill p (f.0).result _ _ f.3 k)
-    ∙ ap (λ o. seen (with_value o (start m r n) (λ i. calls p (suc n) i [] (start m r n)))) (sym at.is)
+    let sound = calls_sound ill halt p (all_kept p p.functions [] rest.1 (among_same (foreign_names p))) (suc n) in
+    let k = sound.at at.number f.0 [] (start m r n) at.stands (no_arguments ill halt p f.0 f.2) in
+    ap (λ o. seen (word_left ill halt (with_sound ill halt o (start m r n) (λ i. guarded_calls ill halt p (suc n) i [] (start m r n))))) at.is
+    ∙ word_is_left ill halt p (f.0).result _ _ f.3 k
+    ∙ ap (λ o. seen_so halt (seen (with_value o (start m r n) (λ i. calls p (suc n) i [] (start m r n))))) (sym at.is)

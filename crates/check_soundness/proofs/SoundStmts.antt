@@ -1,13 +1,13 @@
 -- A statement that the check lets pass does the same in the guarded meaning, and leaves variables and values of the check's shapes.
-use Rattle.std.proofs.Common.{◌≡◌, ℕ, arith, ◌+◌, ◌%◌, ◌^◌, ◌*◌, Bool, true, false, ◌&&◌, ◌||◌, not, nat_eq, List, [], ◌∷◌, ◌++◌, map, length, drop, Option, Some, None, slice_get, refl, sym, ap, subst, ◌∙◌}
+use Rattle.std.proofs.Common.{◌≡◌, ℕ, zero, suc, arith, ◌+◌, ◌%◌, ◌^◌, ◌*◌, Bool, true, false, ◌&&◌, ◌||◌, not, nat_eq, List, [], ◌∷◌, ◌++◌, map, length, drop, Option, Some, None, slice_get, refl, sym, ap, subst, ◌∙◌}
 use Rattle.std.specs.Prelude.{option_map, if◌then◌else◌}
 use Rattle.std.specs.Option.{is_some, option_map_or}
 use Rattle.std.specs.Str.{bytes_eq}
 use Rattle.std.proofs.lemmas.Bool.Decides.{nat_tests}
-use Rattle.pan_base.specs.Events.{Ending, Load, Store, Foreign, byte_count}
+use Rattle.pan_base.specs.Events.{Ending, Spent, Load, Store, Foreign, byte_count}
 use Rattle.pan_control.specs.World.{tolled}
 use Rattle.pan_control.specs.Memory.{is_shared, bytes_at, with_byte, with_words}
-use Rattle.pan_control.specs.Control.{Normal, Broken, Continued, Returned, Raised, Over, in_turn, with_value, turns, call, ask}
+use Rattle.pan_control.specs.Control.{Normal, Broken, Continued, Returned, Raised, Over, in_turn, with_value, turns, call, ask, tail_call, if_not_zero, spend, after_body}
 use Rattle.pan_tree.specs.Running.{World, Outcome, Callee}
 use Rattle.pan_tree.specs.Nodes.{Expr}
 use Rattle.pan_tree.specs.Scopes.{innermost, declare, assign}
@@ -35,7 +35,7 @@ use Rattle.pan_tree.specs.declared.program.Program.{Program}
 use Rattle.pan_tree.proofs.MeaningLayers.{by_layers, run_roll}
 use Rattle.pan_tree.proofs.OwnWeights.{own_weight_same}
 use Rattle.check_soundness.specs.Spread.{spread}
-use Rattle.check_soundness.specs.Guarded.{own_breaks, is_empty, has_number, breaks_nothing, unless_ill, guarded_act, guarded_layer, guarded_kind}
+use Rattle.check_soundness.specs.Guarded.{own_breaks, is_empty, has_number, breaks_nothing, alone, unless_ill, unless_failed, guarded_act, guarded_layer, guarded_kind}
 use Rattle.check_soundness.proofs.SpreadShapes.{spread_word, word_spread, same_spread, filled_shape}
 use Rattle.check_soundness.proofs.Alike.{spread_same}
 use Rattle.check_soundness.proofs.AlikeScopes.{at_shape}
@@ -45,7 +45,7 @@ use Rattle.check_soundness.proofs.OwnRules.{own_done, own_alike}
 use Rattle.check_soundness.proofs.CheckedStmts.{do_roll, closes_roll, target_outer, handle_scopes, outer_order, outer_same, has_name, own_name, Among, among_same, among_then, order_names}
 use Rattle.check_soundness.proofs.Named.{position_is, found_at, any_found, some_is, some_of}
 use Rattle.check_soundness.proofs.OwnOfWhole.{whole_done, own_of_whole, and_block_none}
-use Rattle.check_soundness.proofs.Keeping.{Leaves, Keeps, keeps_as, keeps_less, then_keeps, with_keeps, where_keeps, choice_keeps, ask_keeps, on_keeps, call_keeps, tail_keeps, turns_keeps}
+use Rattle.check_soundness.proofs.Keeping.{Leaves, instead, Keeps, keeps_as, keeps_less, then_keeps, with_leaves, where_leaves, ask_leaves, alone_keeps, first_keeps, sure_keeps, choice_keeps, on_keeps, nowhere, spend_sure, call_keeps, tail_keeps, Tried, turns_keeps}
 
 -- an exception has a value of its shape
 abbrev pub Thrown : Program → ℕ → Value → Type 0
@@ -56,8 +56,8 @@ abbrev pub HasShape : Shape → Value → Type 0
 HasShape s a = shape_in a ≡ spread s
 
 -- a callee with arguments of its parameters' shapes does the same, and returns a value of its shape
-pub record SoundCallee (p : Program) (guarded real : Callee (List Value) Value) : Type 0 where
-  pub at : (f : ℕ) (g : Function) (xs : List Value) (w : World) → slice_get p.functions f ≡ Some g → ArgumentsFit g.params xs → Keeps {V = Unit {0}} (λ u. ⊥) (λ u. ⊥) (HasShape g.result) (Thrown p) (guarded f xs w) (real f xs w)
+pub record SoundCallee (halt : Ending) (p : Program) (guarded real : Callee (List Value) Value) : Type 0 where
+  pub at : (f : ℕ) (g : Function) (xs : List Value) (w : World) → slice_get p.functions f ≡ Some g → ArgumentsFit g.params xs → Keeps halt {V = Unit {0}} (λ u. ⊥) (λ u. ⊥) (HasShape g.result) (Thrown p) (guarded f xs w) (real f xs w)
 
 -- the last of these closes
 abbrev pub list_closes : List (Spanned StmtKind) → Bool
@@ -92,16 +92,16 @@ arguments_fit g o js e h k =
     let n = counted g o js e h in
     differ_none g.params js n (sym (ap (λ b. b && differ g.params js) n) ∙ sym (ap (λ o. wrong_shape o js) e) ∙ k)
 
-module _ (ill : Ending) (p : Program) (result : Shape) (d : ℕ) (callee' callee : Callee (List Value) Value) (callees : SoundCallee p callee' callee) where
+module _ (ill halt : Ending) (p : Program) (result : Shape) (d : ℕ) (callee' callee : Callee (List Value) Value) (callees : SoundCallee halt p callee' callee) where
   abbrev pub run : StmtKind → Does
   run = run_kind p d callee
 
   abbrev pub guard : StmtKind → Does
-  guard = guarded_kind ill p result d callee'
+  guard = guarded_kind ill halt p result d callee'
 
-  guard_roll : (y : StmtKind-F StmtKind) → guard (roll-StmtKind y) ≡ guarded_layer ill p result d callee' (map-StmtKind StmtKind Does guard y)
+  guard_roll : (y : StmtKind-F StmtKind) → guard (roll-StmtKind y) ≡ guarded_layer ill halt p result d callee' (map-StmtKind StmtKind Does guard y)
   unfolding guarded_kind
-  guard_roll y = fold-roll-StmtKind Does (guarded_layer ill p result d callee') y
+  guard_roll y = fold-roll-StmtKind Does (guarded_layer ill halt p result d callee') y
 
   -- inside a loop or not
   abbrev pub context : Bool → Context
@@ -120,7 +120,7 @@ module _ (ill : Ending) (p : Program) (result : Shape) (d : ℕ) (callee' callee
   In l t v = (l ≡ true) × Fits t v
 
   abbrev pub Does-alike : (Scopes → Type 0) → (Scopes → Type 0) → Outcome Scopes Value → Outcome Scopes Value → Type 0
-  Does-alike M C o o' = Keeps M C (HasShape result) (Thrown p) o o'
+  Does-alike M C o o' = Keeps halt M C (HasShape result) (Thrown p) o o'
 
   -- what the check makes of a statement, whether it closes, and what it does
   abbrev pub SoundAs : Doing → Bool → Does → Does → Type 0
@@ -163,10 +163,10 @@ module _ (ill : Ending) (p : Program) (result : Shape) (d : ℕ) (callee' callee
       let last = (in_order (map doing xs) (context l) one.state).state in
       let breaks = append_none one.breaks (in_order (map doing xs) (context l) one.state).breaks b in
       let names = among_then (one.state).names last.names (foreign_names p) (order_names xs (context l) one.state) a in
-      then_keeps (HasShape result) (Thrown p) (N (one.state).scopes (closes_kind x.kind)) (B l s.scopes) (N last.scopes (list_closes (x ∷ xs))) (guard x.kind v w) (run x.kind v w) _ _
+      then_keeps ill halt (HasShape result) (Thrown p) (N (one.state).scopes (closes_kind x.kind)) (B l s.scopes) (N last.scopes (list_closes (x ∷ xs))) (guard x.kind v w) (run x.kind v w) _ _
       (all.0 l x.span.start s v w f breaks.0 names)
       (λ t w n.
-      keeps_less (HasShape result) (Thrown p) (N last.scopes (list_closes xs)) (B l (one.state).scopes) (N last.scopes (list_closes (x ∷ xs))) (B l s.scopes) (in_turn_of guards xs t w) (in_turn_of does xs t w)
+      keeps_less ill halt (HasShape result) (Thrown p) (N last.scopes (list_closes xs)) (B l (one.state).scopes) (N last.scopes (list_closes (x ∷ xs))) (B l s.scopes) (in_turn_of guards xs t w) (in_turn_of does xs t w)
       (λ u h. (h.0, closes_more x xs n.1 h.1)) (λ u h. (h.0, subst (λ scopes. Fits scopes (drop 1 u)) (outer_same x.kind (context l) x.span.start s) h.1))
       (order_sound xs all.1 l one.state t w n.0 breaks.1 a))
 
@@ -182,7 +182,7 @@ module _ (ill : Ending) (p : Program) (result : Shape) (d : ℕ) (callee' callee
   block_sound scope first ss all l s v w e f b a =
       let start : State = record s { scopes = scope ∷ s.scopes } in
       let inner = (in_order (map doing ss) (context l) start).state in
-      on_keeps (HasShape result) (Thrown p) (N inner.scopes (list_closes ss)) (B l start.scopes) (N s.scopes (list_closes ss)) (In l s.scopes) (drop 1) (in_turn_of guards ss (first ∷ v) w) (in_turn_of does ss (first ∷ v) w)
+      on_keeps ill halt (HasShape result) (Thrown p) (N inner.scopes (list_closes ss)) (B l start.scopes) (N s.scopes (list_closes ss)) (In l s.scopes) (drop 1) (in_turn_of guards ss (first ∷ v) w) (in_turn_of does ss (first ∷ v) w)
       (λ u h. (subst (λ scopes. Fits scopes (drop 1 u)) (outer_order ss (context l) start) (fits_drop inner.scopes u h.0), h.1)) (λ u h. h)
       (order_sound ss all l start (first ∷ v) w (fits_more scope first s.scopes v e f) b a)
 
@@ -301,24 +301,30 @@ module _ (ill : Ending) (p : Program) (result : Shape) (d : ℕ) (callee' callee
             let known : exception_of h.exception p ≡ Some x.0 = sym (position_is (λ (y : Exception). bytes_eq y.name h.exception) p.exceptions i (hit_is i (exception_index h.exception p) e)) ∙ x.1 in
             let value = option_map_or (λ (x : Exception). x.shape) (exception_of h.exception p) shape.Word in
             let is : value ≡ (x.0).shape = ap (λ o. option_map_or (λ (x : Exception). x.shape) o shape.Word) known in
-            keeps_less (HasShape result) (Thrown p) (N (behind t name).scopes (list_closes (map plain (h.body).stmts))) (In l (behind t name).scopes) (N (behind t name).scopes false) (B l s.scopes) _ _
+            keeps_less ill halt (HasShape result) (Thrown p) (N (behind t name).scopes (list_closes (map plain (h.body).stmts))) (In l (behind t name).scopes) (N (behind t name).scopes false) (B l s.scopes) _ _
             (λ z k. (k.0, refl)) (λ z k. (k.0, subst (λ scopes. Fits scopes (drop 1 z)) (target_outer t (result_in name) s.scopes) (fits_drop (behind t name).scopes z k.1)))
             (block_sound ((h.name, value) ∷ []) ((h.name, a) ∷ []) (map plain (h.body).stmts) (all_known (h.body).stmts) l (behind t name) u w (ap (λ z. (h.name, z) ∷ []) (x.2 ∙ ap spread (sym is))) f b names)
 
-    call_sound : (t : Target) (name : List ℕ) (es : List Expr) (h : Option (HandlerOf (Spanned Known))) (v : Scopes) (w : World) → Fits s.scopes v → (call_done t name es h).breaks ≡ [] → Among ((call_done t name es h).state).names (foreign_names p)
-        → Does-alike (N ((call_done t name es h).state).scopes false) (B l s.scopes) (act_layer p d callee' (stmt.Call (record { into = t; function = name; args = es; handler = handler_of guards h })) v w)
+    call_sound : (t : Target) (name : List ℕ) (es : List Expr) (h : Option (HandlerOf (Spanned Known))) (by_itself : Option (HandlerOf (Spanned Does))) (v : Scopes) (w : World) → Fits s.scopes v → (call_done t name es h).breaks ≡ []
+        → Among ((call_done t name es h).state).names (foreign_names p)
+        → Does-alike (N ((call_done t name es h).state).scopes false) (B l s.scopes)
+        (unless_failed ill halt (act_layer p 0 (nowhere ill halt (HasShape result) (Thrown p) (N [] false) (N [] false)) (stmt.Call (record { into = t; function = name; args = es; handler = by_itself })) v w)
+        (act_layer p d callee' (stmt.Call (record { into = t; function = name; args = es; handler = handler_of guards h })) v w))
         (act_layer p d callee (stmt.Call (record { into = t; function = name; args = es; handler = handler_of does h })) v w)
-    call_sound t name es h v w f b names =
+    call_sound t name es h by_itself v w f b names =
         let rules = call_rules t name es (handler_unknown (handler_doing h) p) in
         let both = append_none (breaks_of (arguments es) ++ broken place rules) (check.handle (handler_doing h) (context l) (behind t name)).breaks b in
         let c = called t name es (handler_unknown (handler_doing h) p) (append_none (breaks_of (arguments es)) (broken place rules) both.0).1 in
         let g = c.callee_of in
         let is : result_in name ≡ g.result = ap result_of c.known in
         let u = into_nothing t (result_in name) v in
-        subst (λ scopes. Does-alike (N scopes false) (B l s.scopes) (act_layer p d callee' (stmt.Call (record { into = t; function = name; args = es; handler = handler_of guards h })) v w)
-        (act_layer p d callee (stmt.Call (record { into = t; function = name; args = es; handler = handler_of does h })) v w)) (sym (handle_scopes (handler_doing h) (context l) (behind t name)))
-        (with_keeps (HasShape result) (Thrown p) (N (behind t name).scopes false) (B l s.scopes) (function_index name p) w _ _ (λ i found.
-        call_keeps (HasShape result) (Thrown p) (N (behind t name).scopes false) (B l s.scopes) (HasShape g.result) (λ u. ⊥) (λ u. ⊥) callee' callee i (values es v w.memory) w _ _ _ _
+        let give = λ (a : Value) (w : World). let o : Outcome Scopes Value = Normal (into t a v) w in o in
+        let guarded_calls = λ (i : ℕ). call callee' i (values es v w.memory) w give (caught p (handler_of guards h) u) in
+        let real_calls = λ (i : ℕ). call callee i (values es v w.memory) w give (caught p (handler_of does h) u) in
+        let calls_alone = λ (i : ℕ). call (λ f xs w. Over Spent w) i (values es v w.memory) w give (caught p by_itself u) in
+        subst (λ scopes. Does-alike (N scopes false) (B l s.scopes) (unless_failed ill halt (with_value (function_index name p) w calls_alone) (with_value (function_index name p) w guarded_calls)) (with_value (function_index name p) w real_calls)) (sym (handle_scopes (handler_doing h) (context l) (behind t name)))
+        (first_keeps ill halt (HasShape result) (Thrown p) (N (behind t name).scopes false) (B l s.scopes) (function_index name p) w calls_alone guarded_calls real_calls (λ i found.
+        call_keeps ill halt (HasShape result) (Thrown p) (N (behind t name).scopes false) (B l s.scopes) (HasShape g.result) callee' callee i (values es v w.memory) w give give (caught p (handler_of guards h) u) (caught p (handler_of does h) u) give (caught p by_itself u)
         (λ xs w' given.
         callees.at i g xs w' (position_is (λ (z : Function). bytes_eq z.name name) p.functions i found ∙ c.known) (values_fit es s.scopes v w.memory xs f given ∙ arguments_fit g (function_of name p) (arguments es) c.known c.count c.shapes))
         (λ a w' q. record { same = refl; so = (into_fits t (result_in name) g (function_of name p) a v f c.known is c.unknown c.other (q ∙ ap spread (sym is)), refl) })
@@ -328,8 +334,8 @@ module _ (ill : Ending) (p : Program) (result : Shape) (d : ℕ) (callee' callee
 
     abbrev tried_act : StmtKind-F Does → Does
     tried_act (stmt.While e body) v w =
-        turns d (λ v w. unless_ill ill (breaks_nothing p result (stmt.While e body) v) w (Normal v w)) (λ v w. word e v w.memory) (λ v w. tested_again (expr_weight e) (scoped [] body v w)) v w
-    tried_act y v w = act_layer p d callee' y v w
+        turns d (λ v w. unless_ill ill halt (breaks_nothing p result (stmt.While e body) v) w (unless_failed ill halt (alone p (stmt.While e body) v w) (Normal v w))) (λ v w. word e v w.memory) (λ v w. tested_again (expr_weight e) (scoped [] body v w)) v w
+    tried_act y v w = unless_failed ill halt (alone p y v w) (act_layer p d callee' y v w)
 
     abbrev guarded_parts : StmtKind-F Known → StmtKind-F Does
     guarded_parts y = map-StmtKind StmtKind Does guard (parts y)
@@ -348,8 +354,16 @@ module _ (ill : Ending) (p : Program) (result : Shape) (d : ℕ) (callee' callee
     rules_kept js rules b = (append_none (breaks_of js) (broken place rules) b).1
 
     again_keeps : (M : Scopes → Type 0) (weight : Scopes → ℕ) (o o' : Outcome Scopes Value) → Does-alike M M o o' → Does-alike M M (tested_again weight o) (tested_again weight o')
-    again_keeps M weight o o' k = record { same = ap (tested_again weight) k.same; so = by o' k.so }
+    again_keeps M weight o o' k = record { same = ap (tested_again weight) k.same ∙ on o'; so = by o' k.so }
       where
+        on : (o : Outcome Scopes Value) → tested_again weight (instead halt o) ≡ instead halt (tested_again weight o)
+        on (Normal v w) = refl
+        on (Broken v w) = refl
+        on (Continued v w) = refl
+        on (Returned x w) = refl
+        on (Raised i x w) = refl
+        on (Over e w) = refl
+
         by : (o : Outcome Scopes Value) → Leaves M M (HasShape result) (Thrown p) o → Leaves M M (HasShape result) (Thrown p) (tested_again weight o)
         by (Normal v w) h = h
         by (Broken v w) h = h
@@ -371,6 +385,18 @@ module _ (ill : Ending) (p : Program) (result : Shape) (d : ℕ) (callee' callee
     not_in_loop : broken place ((LoopOutside, not l) ∷ []) ≡ [] → l ≡ true
     not_in_loop b = not_false l (unbroken place LoopOutside (not l) [] b).0
 
+    -- a block that finds no fuel doesn't fail
+    abbrev without_fuel : List (Spanned Does) → BlockOf (Spanned Does)
+    without_fuel ss = record { stmts = map (λ (s : Spanned Does). record { kind = λ v w. Over Spent w; span = s.span }) ss }
+
+    sure_block : (ss : List (Spanned Does)) (v : Scopes) (w : World) (r : Outcome Scopes Value) → unless_failed ill halt (scoped [] (without_fuel ss) v w) r ≡ r
+    sure_block [] v w r = refl
+    sure_block (x ∷ xs) v w r = refl
+
+    sure_choice : (n : ℕ) (xs ys : List (Spanned Does)) (v : Scopes) (w : World) (r : Outcome Scopes Value) → unless_failed ill halt (if_not_zero n (scoped [] (without_fuel xs) v w) (scoped [] (without_fuel ys) v w)) r ≡ r
+    sure_choice zero xs ys v w r = sure_block ys v w r
+    sure_choice (suc n) xs ys v w r = sure_block xs v w r
+
     if_sound : (e : Expr) (x y : BlockOf (Spanned Known)) → ActSound (stmt.If e x y)
     if_sound e x y v w f b names =
         let first = checked_block [] (map plain x.stmts) l s in
@@ -380,14 +406,37 @@ module _ (ill : Ending) (p : Program) (result : Shape) (d : ℕ) (callee' callee
         let before = append_none test.breaks first.breaks all.0 in
         let early = among_then (first.state).names (second.state).names (foreign_names p) (order_names (map plain y.stmts) (context l) (record first.state { scopes = [] ∷ s.scopes })) names in
         let c = closing (stmt.If e x y) in
-        with_keeps (HasShape result) (Thrown p) (N s.scopes c) (B l s.scopes) (word e v w.memory) w _ _ (λ n is.
-        choice_keeps (HasShape result) (Thrown p) (N s.scopes c) (B l s.scopes) n _ _ _ _
-        (keeps_less (HasShape result) (Thrown p) (N s.scopes (list_closes (map plain x.stmts))) (In l s.scopes) (N s.scopes c) (B l s.scopes) _ _
+        let xs = map guards (map plain x.stmts) in
+        let ys = map guards (map plain y.stmts) in
+        first_keeps ill halt (HasShape result) (Thrown p) (N s.scopes c) (B l s.scopes) (word e v w.memory) w (λ n. if_not_zero n (scoped [] (without_fuel xs) v w) (scoped [] (without_fuel ys) v w)) _ _ (λ n is.
+        sure_keeps ill halt (HasShape result) (Thrown p) (N s.scopes c) (B l s.scopes) (if_not_zero n (scoped [] (without_fuel xs) v w) (scoped [] (without_fuel ys) v w)) _ _ (sure_choice n xs ys v w)
+        (choice_keeps ill halt (HasShape result) (Thrown p) (N s.scopes c) (B l s.scopes) n _ _ _ _
+        (keeps_less ill halt (HasShape result) (Thrown p) (N s.scopes (list_closes (map plain x.stmts))) (In l s.scopes) (N s.scopes c) (B l s.scopes) _ _
         (λ u h. (h.0, ap (λ z. z && check.block_closes (record { stmts = map (λ (x : Spanned StmtKind). record { kind = closes_kind x.kind; span = x.span }) (map plain y.stmts) })) (block_closing x.stmts ∙ h.1))) (out_of l s.scopes)
         (block_sound [] [] (map plain x.stmts) (all_known x.stmts) l s v w refl f before.1 early))
-        (keeps_less (HasShape result) (Thrown p) (N s.scopes (list_closes (map plain y.stmts))) (In l s.scopes) (N s.scopes c) (B l s.scopes) _ _
+        (keeps_less ill halt (HasShape result) (Thrown p) (N s.scopes (list_closes (map plain y.stmts))) (In l s.scopes) (N s.scopes c) (B l s.scopes) _ _
         (λ u h. (h.0, and_false (check.block_closes (record { stmts = map (λ (x : Spanned StmtKind). record { kind = closes_kind x.kind; span = x.span }) (map plain x.stmts) })) _ (block_closing y.stmts ∙ h.1))) (out_of l s.scopes)
-        (block_sound [] [] (map plain y.stmts) (all_known y.stmts) l first.state v w refl f all.1 names)))
+        (block_sound [] [] (map plain y.stmts) (all_known y.stmts) l first.state v w refl f all.1 names))))
+
+    -- a test by itself
+    tested_alone : (e : Expr) (ss : List (Spanned Does)) (v : Scopes) (w : World)
+        → Tried ill halt (HasShape result) (Thrown p) (word e v w.memory) (unless_failed ill halt (alone p (stmt.While e (record { stmts = ss })) v w) (Normal v w)) v w
+    tested_alone e ss v w = by (word e v w.memory)
+      where
+        turned : World → Outcome Scopes Value
+        turned w = after_body (tested_again (expr_weight e) (scoped [] (without_fuel ss) v w)) (λ v w. Over Spent w)
+
+        sure : (w : World) (r : Outcome Scopes Value) → unless_failed ill halt (turned w) r ≡ r
+        sure w r = one ss
+          where
+            one : (ss : List (Spanned Does)) → unless_failed ill halt (after_body (tested_again (expr_weight e) (scoped [] (without_fuel ss) v w)) (λ v w. Over Spent w)) r ≡ r
+            one [] = refl
+            one (x ∷ xs) = refl
+
+        by : (o : Option ℕ) → Tried ill halt (HasShape result) (Thrown p) o (unless_failed ill halt (with_value o w (λ n. if_not_zero n (spend w turned) (Normal v w))) (Normal v w)) v w
+        by None = refl
+        by (Some zero) = refl
+        by (Some (suc n)) = spend_sure ill halt (HasShape result) (Thrown p) (N [] false) (N [] false) w turned sure (Normal v w)
 
     while_sound : (e : Expr) (x : BlockOf (Spanned Known)) → ((v : Scopes) → Fits s.scopes v → breaks_nothing p result (guarded_parts (stmt.While e x)) v ≡ true) → ActSound (stmt.While e x)
     while_sound e x kept v w f b names =
@@ -395,34 +444,34 @@ module _ (ill : Ending) (p : Program) (result : Shape) (d : ℕ) (callee' callee
         let test = check.plain place 0 (check.judged e s.scopes ∷ []) ((NotWord, has_no_word (check.judged e s.scopes ∷ [])) ∷ []) s in
         let both = append_none test.breaks inner.breaks b in
         let tried = breaks_nothing p result (guarded_parts (stmt.While e x)) in
-        keeps_less (HasShape result) (Thrown p) (Fits s.scopes) (B l s.scopes) (N s.scopes false) (B l s.scopes) _ _ (λ u h. (h, refl)) (λ u h. h)
-        (turns_keeps (HasShape result) (Thrown p) (Fits s.scopes) (B l s.scopes) (λ v w. unless_ill ill (tried v) w (Normal v w)) (λ v w. word e v w.memory)
+        keeps_less ill halt (HasShape result) (Thrown p) (Fits s.scopes) (B l s.scopes) (N s.scopes false) (B l s.scopes) _ _ (λ u h. (h, refl)) (λ u h. h)
+        (turns_keeps ill halt (HasShape result) (Thrown p) (Fits s.scopes) (B l s.scopes) (λ v w. unless_ill ill halt (tried v) w (unless_failed ill halt (alone p (guarded_parts (stmt.While e x)) v w) (Normal v w))) (λ v w. word e v w.memory)
         (λ v w. tested_again (expr_weight e) (scoped [] (block_of guards (map plain x.stmts)) v w)) (λ v w. tested_again (expr_weight e) (scoped [] (block_of does (map plain x.stmts)) v w))
-        (λ u z h. ap (λ c. unless_ill ill c z (Normal u z)) (kept u h))
+        (λ u z h. subst (λ c. Tried ill halt (HasShape result) (Thrown p) (word e u z.memory) (unless_ill ill halt c z (unless_failed ill halt (alone p (guarded_parts (stmt.While e x)) u z) (Normal u z))) u z) (sym (kept u h)) (tested_alone e (map guards (map plain x.stmts)) u z))
         (λ u z h.
         again_keeps (Fits s.scopes) (expr_weight e) _ _
-        (keeps_less (HasShape result) (Thrown p) (N s.scopes (list_closes (map plain x.stmts))) (In true s.scopes) (Fits s.scopes) (Fits s.scopes) _ _ (λ u k. k.0) (λ u k. k.1)
+        (keeps_less ill halt (HasShape result) (Thrown p) (N s.scopes (list_closes (map plain x.stmts))) (In true s.scopes) (Fits s.scopes) (Fits s.scopes) _ _ (λ u k. k.0) (λ u k. k.1)
         (block_sound [] [] (map plain x.stmts) (all_known x.stmts) true s u z refl h both.1 names)))
         d v w f)
 
     act_sound : (y : StmtKind-F Known) → ((v : Scopes) → Fits s.scopes v → breaks_nothing p result (guarded_parts y) v ≡ true) → ActSound y
     act_sound stmt.Skip kept v w f b names = record { same = refl; so = (f, refl) }
     act_sound (stmt.Decl x e) kept v w f b names =
-        with_keeps (HasShape result) (Thrown p) _ (B l s.scopes) (value e v w.memory) w _ _ (λ a is. record { same = refl; so = (fits_declare x (check.judged e s.scopes).shape a s.scopes v (value_fits e s.scopes v w.memory a f is) f, refl) })
+        alone_keeps ill halt (HasShape result) (Thrown p) _ (B l s.scopes) _ (with_leaves ill halt (HasShape result) (Thrown p) _ (B l s.scopes) (value e v w.memory) w _ (λ a is. (fits_declare x (check.judged e s.scopes).shape a s.scopes v (value_fits e s.scopes v w.memory a f is) f, refl)))
     act_sound (stmt.Assign x e) kept v w f b names =
         let j = check.judged e s.scopes in
         let known = innermost x s.scopes in
         let one = unbroken place UnknownName (no_value known) ((WrongShape, is_other known j.shape) ∷ []) (rules_kept (j ∷ []) ((UnknownName, no_value known) ∷ (WrongShape, is_other known j.shape) ∷ []) b) in
         let two = unbroken place WrongShape (is_other known j.shape) [] one.1 in
-        with_keeps (HasShape result) (Thrown p) (N s.scopes false) (B l s.scopes) (value e v w.memory) w _ _ (λ a is.
+        alone_keeps ill halt (HasShape result) (Thrown p) (N s.scopes false) (B l s.scopes) _ (with_leaves ill halt (HasShape result) (Thrown p) (N s.scopes false) (B l s.scopes) (value e v w.memory) w _ (λ a is.
         let old = variable_fits x j.shape a s.scopes v f one.0 two.0 (value_fits e s.scopes v w.memory a f is) in
-        record { same = refl; so = (fits_assign x a old.0 s.scopes v old.1 old.2 f, refl) })
+        (fits_assign x a old.0 s.scopes v old.1 old.2 f, refl)))
     act_sound (stmt.StoreWords a e) kept v w f b names =
-        with_keeps (HasShape result) (Thrown p) (N s.scopes false) (B l s.scopes) (word a v w.memory) w _ _ (λ addr is. with_keeps (HasShape result) (Thrown p) (N s.scopes false) (B l s.scopes) (value e v w.memory) w _ _ (λ x is.
-        with_keeps (HasShape result) (Thrown p) (N s.scopes false) (B l s.scopes) (with_words w.memory addr (words_in x)) w _ _ (λ m is. record { same = refl; so = (f, refl) })))
+        alone_keeps ill halt (HasShape result) (Thrown p) (N s.scopes false) (B l s.scopes) _ (with_leaves ill halt (HasShape result) (Thrown p) (N s.scopes false) (B l s.scopes) (word a v w.memory) w _ (λ addr is. with_leaves ill halt (HasShape result) (Thrown p) (N s.scopes false) (B l s.scopes) (value e v w.memory) w _ (λ x is.
+        with_leaves ill halt (HasShape result) (Thrown p) (N s.scopes false) (B l s.scopes) (with_words w.memory addr (words_in x)) w _ (λ m is. (f, refl)))))
     act_sound (stmt.StoreByte a e) kept v w f b names =
-        with_keeps (HasShape result) (Thrown p) (N s.scopes false) (B l s.scopes) (word a v w.memory) w _ _ (λ addr is. with_keeps (HasShape result) (Thrown p) (N s.scopes false) (B l s.scopes) (word e v w.memory) w _ _ (λ n is.
-        with_keeps (HasShape result) (Thrown p) (N s.scopes false) (B l s.scopes) (with_byte w.memory addr (n % 256)) w _ _ (λ m is. record { same = refl; so = (f, refl) })))
+        alone_keeps ill halt (HasShape result) (Thrown p) (N s.scopes false) (B l s.scopes) _ (with_leaves ill halt (HasShape result) (Thrown p) (N s.scopes false) (B l s.scopes) (word a v w.memory) w _ (λ addr is. with_leaves ill halt (HasShape result) (Thrown p) (N s.scopes false) (B l s.scopes) (word e v w.memory) w _ (λ n is.
+        with_leaves ill halt (HasShape result) (Thrown p) (N s.scopes false) (B l s.scopes) (with_byte w.memory addr (n % 256)) w _ (λ m is. (f, refl)))))
     act_sound (stmt.If e x y) kept v w f b names = if_sound e x y v w f b names
     act_sound (stmt.While e x) kept v w f b names = while_sound e x kept v w f b names
     act_sound stmt.Break kept v w f b names = record { same = refl; so = (not_in_loop b, fits_drop s.scopes v f) }
@@ -430,13 +479,13 @@ module _ (ill : Ending) (p : Program) (result : Shape) (d : ℕ) (callee' callee
     act_sound (stmt.Call k) kept v w f b names = handled k.into k.function k.args k.handler v w f b names
       where
         handled : (t : Target) (name : List ℕ) (es : List Expr) (h : Option (HandlerOf (Spanned Known))) → ActSound (stmt.Call (record { into = t; function = name; args = es; handler = h }))
-        handled t name es None v w f b names = call_sound t name es None v w f b names
-        handled t name es (Some h) v w f b names = call_sound t name es (Some h) v w f b names
+        handled t name es None v w f b names = call_sound t name es None None v w f b names
+        handled t name es (Some h) v w f b names = call_sound t name es (Some h) (Some (record { exception = h.exception; name = h.name; body = without_fuel (map guards (map plain (h.body).stmts)) })) v w f b names
     act_sound (stmt.Return e) kept v w f b names =
         let j = check.judged e s.scopes in
         let one = unbroken place WrongShape (not (same result j.shape)) [] (rules_kept (j ∷ []) ((WrongShape, not (same result j.shape)) ∷ []) b) in
-        with_keeps (HasShape result) (Thrown p) (N s.scopes true) (B l s.scopes) (value e v w.memory) w _ _ (λ a is.
-        record { same = refl; so = value_fits e s.scopes v w.memory a f is ∙ sym (same_spread result j.shape (not_false (same result j.shape) one.0)) })
+        alone_keeps ill halt (HasShape result) (Thrown p) (N s.scopes true) (B l s.scopes) _ (with_leaves ill halt (HasShape result) (Thrown p) (N s.scopes true) (B l s.scopes) (value e v w.memory) w _ (λ a is.
+        value_fits e s.scopes v w.memory a f is ∙ sym (same_spread result j.shape (not_false (same result j.shape) one.0))))
     act_sound (stmt.TailCall name es) kept v w f b names =
         let g = function_of name p in
         let other = is_other (option_map (λ (z : Function). z.result) g) result in
@@ -448,8 +497,8 @@ module _ (ill : Ending) (p : Program) (result : Shape) (d : ℕ) (callee' callee
         let both = neither (wrong_shape g (arguments es)) other two.0 in
         let known = known_is g one.0 in
         let alike = not_false (same (known.0).result result) (sym (ap (λ o. is_other (option_map (λ (z : Function). z.result) o) result) known.1) ∙ both.1) in
-        with_keeps (HasShape result) (Thrown p) (N s.scopes true) (B l s.scopes) (function_index name p) w _ _ (λ i found.
-        tail_keeps (HasShape result) (Thrown p) (N s.scopes true) (B l s.scopes) (HasShape (known.0).result) (λ u. ⊥) (λ u. ⊥) callee' callee i (values es v w.memory) w
+        first_keeps ill halt (HasShape result) (Thrown p) (N s.scopes true) (B l s.scopes) (function_index name p) w (λ i. tail_call (λ f xs w. Over Spent w) i (values es v w.memory) w) _ _ (λ i found.
+        tail_keeps ill halt (HasShape result) (Thrown p) (N s.scopes true) (B l s.scopes) (HasShape (known.0).result) callee' callee i (values es v w.memory) w
         (λ xs w' given.
         callees.at i known.0 xs w' (position_is (λ (z : Function). bytes_eq z.name name) p.functions i found ∙ known.1) (values_fit es s.scopes v w.memory xs f given ∙ arguments_fit known.0 g (arguments es) known.1 three.0 both.0))
         (λ a q. q ∙ same_spread (known.0).result result alike))
@@ -461,8 +510,8 @@ module _ (ill : Ending) (p : Program) (result : Shape) (d : ℕ) (callee' callee
         let two = unbroken place WrongShape other [] one.1 in
         let x = known_is known one.0 in
         let alike = not_false (same (x.0).shape j.shape) (sym (ap (λ o. is_other (option_map (λ (x : Exception). x.shape) o) j.shape) x.1) ∙ two.0) in
-        with_keeps (HasShape result) (Thrown p) (N s.scopes true) (B l s.scopes) (exception_index i p) w _ _ (λ n found. with_keeps (HasShape result) (Thrown p) (N s.scopes true) (B l s.scopes) (value e v w.memory) w _ _ (λ a is.
-        record { same = refl; so = (x.0, position_is (λ (z : Exception). bytes_eq z.name i) p.exceptions n found ∙ x.1, value_fits e s.scopes v w.memory a f is ∙ sym (same_spread (x.0).shape j.shape alike)) }))
+        alone_keeps ill halt (HasShape result) (Thrown p) (N s.scopes true) (B l s.scopes) _ (with_leaves ill halt (HasShape result) (Thrown p) (N s.scopes true) (B l s.scopes) (exception_index i p) w _ (λ n found. with_leaves ill halt (HasShape result) (Thrown p) (N s.scopes true) (B l s.scopes) (value e v w.memory) w _ (λ a is.
+        (x.0, position_is (λ (z : Exception). bytes_eq z.name i) p.exceptions n found ∙ x.1, value_fits e s.scopes v w.memory a f is ∙ sym (same_spread (x.0).shape j.shape alike)))))
     act_sound (stmt.SharedLoad size x a) kept v w f b names =
         let known = innermost x s.scopes in
         let js = check.judged a s.scopes ∷ [] in
@@ -470,35 +519,35 @@ module _ (ill : Ending) (p : Program) (result : Shape) (d : ℕ) (callee' callee
         let r2 : List (Rule × Bool) = (WrongShape, not (is_word (or_word known))) ∷ r3 in
         let one = unbroken place UnknownName (no_value known) r2 (rules_kept js ((UnknownName, no_value known) ∷ r2) b) in
         let two = unbroken place WrongShape (not (is_word (or_word known))) r3 one.1 in
-        with_keeps (HasShape result) (Thrown p) (N s.scopes false) (B l s.scopes) (word a v w.memory) w _ _ (λ addr is. where_keeps (HasShape result) (Thrown p) (N s.scopes false) (B l s.scopes) (is_shared size addr) w _ _
-        (ask_keeps (HasShape result) (Thrown p) (N s.scopes false) (B l s.scopes) (Load size addr) w _ (λ r w'.
+        alone_keeps ill halt (HasShape result) (Thrown p) (N s.scopes false) (B l s.scopes) _ (with_leaves ill halt (HasShape result) (Thrown p) (N s.scopes false) (B l s.scopes) (word a v w.memory) w _ (λ addr is. where_leaves ill halt (HasShape result) (Thrown p) (N s.scopes false) (B l s.scopes) (is_shared size addr) w _
+        (ask_leaves ill halt (HasShape result) (Thrown p) (N s.scopes false) (B l s.scopes) (Load size addr) w _ (λ r w'.
         let old = variable_fits x shape.Word (Word (number r)) s.scopes v f one.0 (word_variable known one.0 (not_false (is_word (or_word known)) two.0)) (sym spread_word) in
-        (fits_assign x (Word (number r)) old.0 s.scopes v old.1 old.2 f, refl))))
+        (fits_assign x (Word (number r)) old.0 s.scopes v old.1 old.2 f, refl)))))
     act_sound (stmt.SharedStore size a e) kept v w f b names =
-        with_keeps (HasShape result) (Thrown p) (N s.scopes false) (B l s.scopes) (word a v w.memory) w _ _ (λ addr is. with_keeps (HasShape result) (Thrown p) (N s.scopes false) (B l s.scopes) (word e v w.memory) w _ _ (λ n is.
-        where_keeps (HasShape result) (Thrown p) (N s.scopes false) (B l s.scopes) (is_shared size addr) w _ _ (ask_keeps (HasShape result) (Thrown p) (N s.scopes false) (B l s.scopes) (Store size addr (n % 2 ^ (8 * byte_count size))) w _ (λ r w'. (f, refl)))))
+        alone_keeps ill halt (HasShape result) (Thrown p) (N s.scopes false) (B l s.scopes) _ (with_leaves ill halt (HasShape result) (Thrown p) (N s.scopes false) (B l s.scopes) (word a v w.memory) w _ (λ addr is. with_leaves ill halt (HasShape result) (Thrown p) (N s.scopes false) (B l s.scopes) (word e v w.memory) w _ (λ n is.
+        where_leaves ill halt (HasShape result) (Thrown p) (N s.scopes false) (B l s.scopes) (is_shared size addr) w _ (ask_leaves ill halt (HasShape result) (Thrown p) (N s.scopes false) (B l s.scopes) (Store size addr (n % 2 ^ (8 * byte_count size))) w _ (λ r w'. (f, refl))))))
     act_sound (stmt.Foreign x a c g e) kept v w f b names =
         let M = N s.scopes false in
         let C = B l s.scopes in
-        with_keeps (HasShape result) (Thrown p) M C (foreign_index x p) w _ _ (λ i is. with_keeps (HasShape result) (Thrown p) M C (word a v w.memory) w _ _ (λ conf is. with_keeps (HasShape result) (Thrown p) M C (word c v w.memory) w _ _ (λ conf_len is.
-        with_keeps (HasShape result) (Thrown p) M C (word g v w.memory) w _ _ (λ array is. with_keeps (HasShape result) (Thrown p) M C (word e v w.memory) w _ _ (λ array_len is.
-        with_keeps (HasShape result) (Thrown p) M C (bytes_at w.memory conf conf_len) w _ _ (λ first is. with_keeps (HasShape result) (Thrown p) M C (bytes_at w.memory array array_len) w _ _ (λ second is.
-        ask_keeps (HasShape result) (Thrown p) M C (Foreign i x first second) w _ (λ r w'. (f, refl)))))))))
+        alone_keeps ill halt (HasShape result) (Thrown p) M C _ (with_leaves ill halt (HasShape result) (Thrown p) M C (foreign_index x p) w _ (λ i is. with_leaves ill halt (HasShape result) (Thrown p) M C (word a v w.memory) w _ (λ conf is. with_leaves ill halt (HasShape result) (Thrown p) M C (word c v w.memory) w _ (λ conf_len is.
+        with_leaves ill halt (HasShape result) (Thrown p) M C (word g v w.memory) w _ (λ array is. with_leaves ill halt (HasShape result) (Thrown p) M C (word e v w.memory) w _ (λ array_len is.
+        with_leaves ill halt (HasShape result) (Thrown p) M C (bytes_at w.memory conf conf_len) w _ (λ first is. with_leaves ill halt (HasShape result) (Thrown p) M C (bytes_at w.memory array array_len) w _ (λ second is.
+        ask_leaves ill halt (HasShape result) (Thrown p) M C (Foreign i x first second) w _ (λ r w'. (f, refl))))))))))
 
   -- the guard of a layer holds, and what it then does takes the work of the statement
-  acts : (place : ℕ) (l : Bool) (s : State) (y : StmtKind-F Does) (v : Scopes) (w : World) → guarded_act ill p result d callee' y v w ≡ tried_act l place s y v (tolled (own_weight p y v) w)
-  acts place l s (stmt.While e body) v w = refl
-  acts place l s y v w = refl
+  acts : (place : ℕ) (l : Bool) (s : State) (y : StmtKind-F Does) (v : Scopes) (w : World) → breaks_nothing p result y v ≡ true → guarded_act ill halt p result d callee' y v w ≡ tried_act l place s y v w
+  acts place l s (stmt.While e body) v w kept = refl
+  acts place l s y v w kept = ap (λ c. unless_ill ill halt c w (unless_failed ill halt (alone p y v w) (act_layer p d callee' y v w))) kept
 
   layer_sound : (y : StmtKind-F Known) → let x = map-StmtKind Known StmtKind (λ c. c.0) y in
-      SoundAs (do_layer (map-StmtKind StmtKind Doing do_kind x)) (closes_layer (map-StmtKind StmtKind Bool closes_kind x)) (guarded_layer ill p result d callee' (map-StmtKind StmtKind Does guard x)) (run_layer p d callee (map-StmtKind StmtKind Does run x))
+      SoundAs (do_layer (map-StmtKind StmtKind Doing do_kind x)) (closes_layer (map-StmtKind StmtKind Bool closes_kind x)) (guarded_layer ill halt p result d callee' (map-StmtKind StmtKind Does guard x)) (run_layer p d callee (map-StmtKind StmtKind Does run x))
   layer_sound y l place s v w f b names =
       let x = map-StmtKind Known StmtKind (λ c. c.0) y in
       let gs = map-StmtKind StmtKind Does guard x in
       let rs = map-StmtKind StmtKind Does run x in
       let kept = λ (v : Scopes) (f : Fits s.scopes v). nothing_broken l place s x v f b names in
-      keeps_as (HasShape result) (Thrown p) _ (B l s.scopes) (guarded_layer ill p result d callee' gs v w) (tried_act l place s gs v (tolled (own_weight p x v) w)) (run_layer p d callee rs v w) (act_layer p d callee rs v (tolled (own_weight p x v) w))
-      (ap (λ c. unless_ill ill c w (guarded_act ill p result d callee' gs v w)) (kept v f) ∙ acts place l s gs v w ∙ ap (λ n. tried_act l place s gs v (tolled n w)) (own_weight_same guard p x v))
+      keeps_as ill halt (HasShape result) (Thrown p) _ (B l s.scopes) (guarded_layer ill halt p result d callee' gs v w) (tried_act l place s gs v (tolled (own_weight p x v) w)) (run_layer p d callee rs v w) (act_layer p d callee rs v (tolled (own_weight p x v) w))
+      (acts place l s gs v (tolled (own_weight p gs v) w) (kept v f) ∙ ap (λ n. tried_act l place s gs v (tolled n w)) (own_weight_same guard p x v))
       (ap (λ n. act_layer p d callee rs v (tolled n w)) (own_weight_same run p x v))
       (act_sound l place s y kept v (tolled (own_weight p x v) w) f b names)
 
@@ -509,7 +558,7 @@ module _ (ill : Ending) (p : Program) (result : Shape) (d : ℕ) (callee' callee
       subst (λ (f : Doing). SoundAs f (closes_kind k) (guard k) (run k)) (sym (do_roll x))
       (subst (λ c. SoundAs (do_layer (map-StmtKind StmtKind Doing do_kind x)) c (guard k) (run k)) (sym (closes_roll x))
       (subst (λ (g : Does). SoundAs (do_layer (map-StmtKind StmtKind Doing do_kind x)) (closes_layer (map-StmtKind StmtKind Bool closes_kind x)) g (run k)) (sym (guard_roll x))
-      (subst (λ (r : Does). SoundAs (do_layer (map-StmtKind StmtKind Doing do_kind x)) (closes_layer (map-StmtKind StmtKind Bool closes_kind x)) (guarded_layer ill p result d callee' (map-StmtKind StmtKind Does guard x)) r) (sym (run_roll p d callee x))
+      (subst (λ (r : Does). SoundAs (do_layer (map-StmtKind StmtKind Doing do_kind x)) (closes_layer (map-StmtKind StmtKind Bool closes_kind x)) (guarded_layer ill halt p result d callee' (map-StmtKind StmtKind Does guard x)) r) (sym (run_roll p d callee x))
       (layer_sound y)))))
 
   pub all_sound : (ss : List (Spanned StmtKind)) → AllSound ss
