@@ -10,6 +10,7 @@ pub mod CheckedStmts
 pub mod Keeping
 pub mod Named
 pub mod OwnOfWhole
+pub mod Alone
 pub mod SoundStmts
 pub mod ShapedValues
 pub mod SoundPrograms

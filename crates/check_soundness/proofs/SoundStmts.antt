@@ -44,6 +44,7 @@ use Rattle.check_soundness.proofs.Fitting.{Fits, fits_alike, fits_declare, fits_
 use Rattle.check_soundness.proofs.OwnRules.{own_done, own_alike}
 use Rattle.check_soundness.proofs.CheckedStmts.{do_roll, closes_roll, target_outer, handle_scopes, outer_order, outer_same, has_name, own_name, Among, among_same, among_then, order_names}
 use Rattle.check_soundness.proofs.Named.{position_is, found_at, any_found, some_is, some_of}
+use Rattle.check_soundness.proofs.Alone.{without_fuel, sure_choice, tested_alone}
 use Rattle.check_soundness.proofs.OwnOfWhole.{whole_done, own_of_whole, and_block_none}
 use Rattle.check_soundness.proofs.Keeping.{Leaves, instead, Keeps, keeps_as, keeps_less, then_keeps, with_leaves, where_leaves, ask_leaves, alone_keeps, first_keeps, sure_keeps, choice_keeps, on_keeps, nowhere, spend_sure, call_keeps, tail_keeps, Tried, turns_keeps}
 
@@ -385,18 +386,6 @@ module _ (ill halt : Ending) (p : Program) (result : Shape) (d : ℕ) (callee' c
     not_in_loop : broken place ((LoopOutside, not l) ∷ []) ≡ [] → l ≡ true
     not_in_loop b = not_false l (unbroken place LoopOutside (not l) [] b).0
 
-    -- a block that finds no fuel doesn't fail
-    abbrev without_fuel : List (Spanned Does) → BlockOf (Spanned Does)
-    without_fuel ss = record { stmts = map (λ (s : Spanned Does). record { kind = λ v w. Over Spent w; span = s.span }) ss }
-
-    sure_block : (ss : List (Spanned Does)) (v : Scopes) (w : World) (r : Outcome Scopes Value) → unless_failed ill halt (scoped [] (without_fuel ss) v w) r ≡ r
-    sure_block [] v w r = refl
-    sure_block (x ∷ xs) v w r = refl
-
-    sure_choice : (n : ℕ) (xs ys : List (Spanned Does)) (v : Scopes) (w : World) (r : Outcome Scopes Value) → unless_failed ill halt (if_not_zero n (scoped [] (without_fuel xs) v w) (scoped [] (without_fuel ys) v w)) r ≡ r
-    sure_choice zero xs ys v w r = sure_block ys v w r
-    sure_choice (suc n) xs ys v w r = sure_block xs v w r
-
     if_sound : (e : Expr) (x y : BlockOf (Spanned Known)) → ActSound (stmt.If e x y)
     if_sound e x y v w f b names =
         let first = checked_block [] (map plain x.stmts) l s in
@@ -409,7 +398,7 @@ module _ (ill halt : Ending) (p : Program) (result : Shape) (d : ℕ) (callee' c
         let xs = map guards (map plain x.stmts) in
         let ys = map guards (map plain y.stmts) in
         first_keeps ill halt (HasShape result) (Thrown p) (N s.scopes c) (B l s.scopes) (word e v w.memory) w (λ n. if_not_zero n (scoped [] (without_fuel xs) v w) (scoped [] (without_fuel ys) v w)) _ _ (λ n is.
-        sure_keeps ill halt (HasShape result) (Thrown p) (N s.scopes c) (B l s.scopes) (if_not_zero n (scoped [] (without_fuel xs) v w) (scoped [] (without_fuel ys) v w)) _ _ (sure_choice n xs ys v w)
+        sure_keeps ill halt (HasShape result) (Thrown p) (N s.scopes c) (B l s.scopes) (if_not_zero n (scoped [] (without_fuel xs) v w) (scoped [] (without_fuel ys) v w)) _ _ (sure_choice ill halt n xs ys v w)
         (choice_keeps ill halt (HasShape result) (Thrown p) (N s.scopes c) (B l s.scopes) n _ _ _ _
         (keeps_less ill halt (HasShape result) (Thrown p) (N s.scopes (list_closes (map plain x.stmts))) (In l s.scopes) (N s.scopes c) (B l s.scopes) _ _
         (λ u h. (h.0, ap (λ z. z && check.block_closes (record { stmts = map (λ (x : Spanned StmtKind). record { kind = closes_kind x.kind; span = x.span }) (map plain y.stmts) })) (block_closing x.stmts ∙ h.1))) (out_of l s.scopes)
@@ -417,26 +406,6 @@ module _ (ill halt : Ending) (p : Program) (result : Shape) (d : ℕ) (callee' c
         (keeps_less ill halt (HasShape result) (Thrown p) (N s.scopes (list_closes (map plain y.stmts))) (In l s.scopes) (N s.scopes c) (B l s.scopes) _ _
         (λ u h. (h.0, and_false (check.block_closes (record { stmts = map (λ (x : Spanned StmtKind). record { kind = closes_kind x.kind; span = x.span }) (map plain x.stmts) })) _ (block_closing y.stmts ∙ h.1))) (out_of l s.scopes)
         (block_sound [] [] (map plain y.stmts) (all_known y.stmts) l first.state v w refl f all.1 names))))
-
-    -- a test by itself
-    tested_alone : (e : Expr) (ss : List (Spanned Does)) (v : Scopes) (w : World)
-        → Tried ill halt (HasShape result) (Thrown p) (word e v w.memory) (unless_failed ill halt (alone p (stmt.While e (record { stmts = ss })) v w) (Normal v w)) v w
-    tested_alone e ss v w = by (word e v w.memory)
-      where
-        turned : World → Outcome Scopes Value
-        turned w = after_body (tested_again (expr_weight e) (scoped [] (without_fuel ss) v w)) (λ v w. Over Spent w)
-
-        sure : (w : World) (r : Outcome Scopes Value) → unless_failed ill halt (turned w) r ≡ r
-        sure w r = one ss
-          where
-            one : (ss : List (Spanned Does)) → unless_failed ill halt (after_body (tested_again (expr_weight e) (scoped [] (without_fuel ss) v w)) (λ v w. Over Spent w)) r ≡ r
-            one [] = refl
-            one (x ∷ xs) = refl
-
-        by : (o : Option ℕ) → Tried ill halt (HasShape result) (Thrown p) o (unless_failed ill halt (with_value o w (λ n. if_not_zero n (spend w turned) (Normal v w))) (Normal v w)) v w
-        by None = refl
-        by (Some zero) = refl
-        by (Some (suc n)) = spend_sure ill halt (HasShape result) (Thrown p) (N [] false) (N [] false) w turned sure (Normal v w)
 
     while_sound : (e : Expr) (x : BlockOf (Spanned Known)) → ((v : Scopes) → Fits s.scopes v → breaks_nothing p result (guarded_parts (stmt.While e x)) v ≡ true) → ActSound (stmt.While e x)
     while_sound e x kept v w f b names =
@@ -447,7 +416,7 @@ module _ (ill halt : Ending) (p : Program) (result : Shape) (d : ℕ) (callee' c
         keeps_less ill halt (HasShape result) (Thrown p) (Fits s.scopes) (B l s.scopes) (N s.scopes false) (B l s.scopes) _ _ (λ u h. (h, refl)) (λ u h. h)
         (turns_keeps ill halt (HasShape result) (Thrown p) (Fits s.scopes) (B l s.scopes) (λ v w. unless_ill ill halt (tried v) w (unless_failed ill halt (alone p (guarded_parts (stmt.While e x)) v w) (Normal v w))) (λ v w. word e v w.memory)
         (λ v w. tested_again (expr_weight e) (scoped [] (block_of guards (map plain x.stmts)) v w)) (λ v w. tested_again (expr_weight e) (scoped [] (block_of does (map plain x.stmts)) v w))
-        (λ u z h. subst (λ c. Tried ill halt (HasShape result) (Thrown p) (word e u z.memory) (unless_ill ill halt c z (unless_failed ill halt (alone p (guarded_parts (stmt.While e x)) u z) (Normal u z))) u z) (sym (kept u h)) (tested_alone e (map guards (map plain x.stmts)) u z))
+        (λ u z h. subst (λ c. Tried ill halt (HasShape result) (Thrown p) (word e u z.memory) (unless_ill ill halt c z (unless_failed ill halt (alone p (guarded_parts (stmt.While e x)) u z) (Normal u z))) u z) (sym (kept u h)) (tested_alone ill halt p e (map guards (map plain x.stmts)) (HasShape result) (Thrown p) u z))
         (λ u z h.
         again_keeps (Fits s.scopes) (expr_weight e) _ _
         (keeps_less ill halt (HasShape result) (Thrown p) (N s.scopes (list_closes (map plain x.stmts))) (In true s.scopes) (Fits s.scopes) (Fits s.scopes) _ _ (λ u k. k.0) (λ u k. k.1)
