@@ -14,3 +14,4 @@ pub mod Alone
 pub mod SoundStmts
 pub mod ShapedValues
 pub mod SoundPrograms
+pub mod ByStep
