@@ -6,3 +6,12 @@ pub mod Rules
 pub mod ShapedExprs
 pub mod Fitting
 pub mod OwnRules
+pub mod CheckedStmts
+pub mod Keeping
+pub mod Named
+pub mod OwnOfWhole
+pub mod Alone
+pub mod SoundStmts
+pub mod ShapedValues
+pub mod SoundPrograms
+pub mod ByStep

@@ -77,10 +77,10 @@ alike_wrong_shape (Some f) is js h = ap (λ n. nat_eq (length f.params) n && dif
 
 module _ {A : Type 0} where
   -- the statements of a block, as ones that weigh nothing
-  abbrev nothings : List (Spanned A) → List (Spanned Doing)
+  abbrev pub nothings : List (Spanned A) → List (Spanned Doing)
   nothings xs = map (λ (x : Spanned A). record { kind = weightless; span = x.span }) xs
 
-  nothings_break : (xs : List (Spanned A)) (c : Context) (s : State) → (in_order (nothings xs) c s).breaks ≡ []
+  pub nothings_break : (xs : List (Spanned A)) (c : Context) (s : State) → (in_order (nothings xs) c s).breaks ≡ []
   nothings_break [] c s = refl
   nothings_break (x ∷ xs) c s = nothings_break xs c s
 
