@@ -1,3 +1,4 @@
 pub mod DecodedLaws
+pub mod RunLaws
 pub mod KnownResults
 pub mod KnownRuns
