@@ -8,7 +8,7 @@ use Rattle.pan_base.specs.Events.{Load, Store, Foreign, Replied, Value, Done, By
 use Rattle.riscv_isa.specs.Running.{run}
 use Rattle.riscv_isa.specs.Machine.{machine}
 use Rattle.riscv_isa.specs.Step.{step, reg}
-use Rattle.riscv_isa.specs.Results.{plus, upper, sign_extended}
+use Rattle.pan_base.specs.Results.{plus, upper, sign_extended}
 use Rattle.riscv_isa.specs.Regions.{place_of}
 use Rattle.riscv_isa.specs.Decoded.{decoded, r_read, i_read, s_read, l_read, b_read, j_read, jalr_read, fence_read, sh_read}
 

@@ -1,4 +1,5 @@
 pub mod DecodedLaws
+pub mod Fetching
 pub mod RunLaws
-pub mod KnownResults
+pub mod Spelling
 pub mod KnownRuns

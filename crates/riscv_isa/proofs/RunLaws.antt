@@ -1,15 +1,12 @@
 -- Runs of anything that steps: they go on with more steps, silent steps are taken one after another, and a step that asks is an event.
 use Rattle.std.proofs.Common.{◌≡◌, ℕ, ◌+◌, zero, suc, refl, sym, ap, ◌∙◌, subst, zero-add, List, [], ◌∷◌, Bool, true, false, arith, inl, inr}
 use Rattle.std.specs.Prelude.{◌⊎◌}
-use Rattle.std.proofs.lemmas.List.{append-nil}
-use Rattle.pan_base.specs.Events.{Asked, Replied, Event, Ending, Stopped, Asks, Spent, Behaviour, only, before, IsPrefix, fits}
+use Rattle.pan_base.specs.Events.{Asked, Replied, Ending, Stopped, Asks, Spent, Behaviour, only, before, fits, IsPrefix}
+use Rattle.pan_base.proofs.PrefixLaws.{prefix_refl}
 use Rattle.riscv_isa.specs.Running.{Config, Runs, Waits, Over, taken, continue, run, Leads, IsSteady}
-use Rattle.riscv_isa.specs.Step.{State, step, request_of, resumed}
+use Rattle.riscv_isa.specs.Step.{step, request_of, resumed}
 use Rattle.riscv_isa.specs.Image.{ImageParts}
 use Rattle.riscv_isa.specs.Machine.{machine, booted}
-
-prefix_refl : (xs : List Event) → IsPrefix xs xs
-prefix_refl xs = record { rest = []; all = sym (append-nil xs) }
 
 -- a longer run is the same, or goes on from one that was spent
 pub record GoesOn (a b : Behaviour) : Type 0 where

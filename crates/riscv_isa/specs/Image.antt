@@ -1,10 +1,10 @@
 -- Images: what they hold, and their bytes.
-use Rattle.std.specs.Prelude.{◌≡◌, ℕ, ◌-◌, ◌%◌, ◌^◌, ◌<◌, ◌≤◌, ◌&&◌, nat_le, not, Bool, true, List, [], ◌∷◌, ◌++◌, length, replicate, codes, Option, unwrap_or, IsTrue}
+use Rattle.std.specs.Prelude.{◌≡◌, ℕ, ◌-◌, ◌%◌, ◌^◌, ◌<◌, ◌≤◌, ◌&&◌, not, Bool, true, List, [], ◌∷◌, ◌++◌, length, replicate, codes, Option, unwrap_or, IsTrue}
 use Rattle.std.specs.List.{flat_map, list_any}
 use Rattle.std.specs.Option.{ForSome}
 use Rattle.std.specs.Str.{bytes_eq}
 use Rattle.std.specs.Int.{w16, w32, w64, to_le_bytes}
-use Rattle.pan_base.specs.Names.{is_spelled}
+use Rattle.pan_base.specs.Names.{is_short_foreign_name}
 use Rattle.pan_base.specs.Words.{IsBytes}
 
 -- what an image holds: the code, the names of foreign functions by number, and the bound on the stack in bytes, if it has one
@@ -13,14 +13,10 @@ pub record ImageParts : Type 0 where
   pub names : List (List ℕ)
   pub bound : Option ℕ
 
--- a name of a foreign function: 1 to 64 bytes, spelled as a name or a reserved word, and neither `base` nor `biw`
-abbrev pub is_foreign_name : List ℕ → Bool
-is_foreign_name name = is_spelled name && nat_le (length name) 64 && not (bytes_eq name (codes "base")) && not (bytes_eq name (codes "biw"))
-
--- each is a foreign name that differs from the names before it
+-- each is a short foreign name that differs from the names before it
 abbrev pub are_foreign_names : List (List ℕ) → Bool
 are_foreign_names [] = true
-are_foreign_names (name ∷ names) = is_foreign_name name && not (list_any (λ other. bytes_eq other name) names) && are_foreign_names names
+are_foreign_names (name ∷ names) = is_short_foreign_name name && not (list_any (λ other. bytes_eq other name) names) && are_foreign_names names
 
 -- the names part: each name after its length
 abbrev pub names_part : List (List ℕ) → List ℕ

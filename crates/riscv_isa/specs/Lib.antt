@@ -2,7 +2,6 @@ pub mod Table
 pub mod Decoded
 pub mod Held
 pub mod Regions
-pub mod Results
 pub mod Running
 pub mod Step
 pub mod Image

@@ -16,9 +16,10 @@ use Rattle.riscv_isa.specs.Decoded.{decoded}
 use Rattle.riscv_isa.specs.Held.{word_at}
 use Rattle.riscv_isa.specs.Running as running
 pub use Rattle.riscv_isa.specs.Running.{Runs, Waits, Over}
-use Rattle.riscv_isa.specs.Regions.{Memory, begin, bytes_of, with_bytes, is_in, place_of, number_at, with_number, part, with_part}
-use Rattle.riscv_isa.specs.Results.{r_result, i_result, sh_result, u_result, l_result, loads, stores}
-unfoldable pub use Rattle.riscv_isa.specs.Results.{plus, upper}
+use Rattle.pan_base.specs.Bytes.{number_at, with_number, part, with_part}
+use Rattle.riscv_isa.specs.Regions.{Memory, begin, bytes_of, with_bytes, is_in, place_of}
+use Rattle.pan_base.specs.Results.{r_result, i_result, sh_result, u_result, l_result, loads, stores}
+unfoldable pub use Rattle.pan_base.specs.Results.{plus, upper}
 
 -- the 32 registers, the program counter, the bytes of the code, the names of the foreign functions, and data memory
 pub record State : Type 0 where
