@@ -15,3 +15,5 @@ pub mod SoundStmts
 pub mod ShapedValues
 pub mod SoundPrograms
 pub mod ByStep
+pub mod FailsNothing
+pub mod KeptShapes

@@ -13,8 +13,9 @@ use Rattle.pan_tree.specs.declared.syntax.Target.{Target}
 use Rattle.pan_tree.specs.declared.syntax.StmtKind.{StmtKind, StmtKind-F, map-StmtKind}
 use Rattle.pan_tree.specs.declared.syntax.StmtKind.TheOpen as stmt
 use Rattle.pan_tree.specs.declared.program.Exception.{Exception}
+use Rattle.check_soundness.specs.Guarded.{own_done}
 use Rattle.check_soundness.proofs.Rules.{append_none, none_append}
-use Rattle.check_soundness.proofs.OwnRules.{nothings, nothings_break, own_done}
+use Rattle.check_soundness.proofs.OwnRules.{nothings, nothings_break}
 
 -- a statement that goes on with a block breaks what comes before it, and what the block does
 pub and_block_none : (d : Done) (b : State → Done) → (check.and_block d b).breaks ≡ [] → (d.breaks ≡ []) × ((b d.state).breaks ≡ [])

@@ -25,6 +25,7 @@ use Rattle.pan_tree.specs.declared.program.Exception.{Exception}
 use Rattle.pan_tree.specs.declared.program.Function.{Function}
 use Rattle.pan_tree.specs.declared.program.Program.{Program}
 use Rattle.check_soundness.specs.Spread.{spread}
+use Rattle.check_soundness.specs.Guarded.{own_done}
 use Rattle.check_soundness.proofs.Alike.{same_size, same_is_word, same_alike}
 use Rattle.check_soundness.proofs.AlikeScopes.{AlikeScopes, alike_innermost, alike_declared}
 use Rattle.check_soundness.proofs.AlikeExprs.{AllAlike, AlikeJudged, alike_weights, alike_breaks, alike_no_word, expr_alike, exprs_alike}
@@ -87,10 +88,6 @@ module _ {A : Type 0} where
   nothings_weigh : (xs : List (Spanned A)) (c : Context) (s : State) → (in_order (nothings xs) c s).weight ≡ 0
   nothings_weigh [] c s = refl
   nothings_weigh (x ∷ xs) c s = ap (λ n. 0 + n) (nothings_weigh xs c s)
-
--- what a statement weighs and breaks without its blocks
-abbrev pub own_done : {A : Type 0} → StmtKind-F A → Doing
-own_done {A} y = do_layer (map-StmtKind A Doing (λ _. weightless) y)
 
 -- as much, and nothing is broken where nothing was, if this holds
 pub record OwnAlike (R : Type 0) (a b : Done) : Type 0 where

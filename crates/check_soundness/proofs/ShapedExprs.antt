@@ -32,7 +32,7 @@ use Rattle.check_soundness.proofs.AlikeScopes.{innermost_shapes}
 use Rattle.check_soundness.proofs.AlikeExprs.{judge_roll, expr_induct}
 use Rattle.check_soundness.proofs.Rules.{unbroken, append_none, head_breaks, head_word}
 
-value_roll : (y : ExprKind-F ExprKind) → value_kind (roll-ExprKind y) ≡ value_layer (map-ExprKind ExprKind Giving value_kind y)
+pub value_roll : (y : ExprKind-F ExprKind) → value_kind (roll-ExprKind y) ≡ value_layer (map-ExprKind ExprKind Giving value_kind y)
 unfolding value_kind
 value_roll y = fold-roll-ExprKind Giving value_layer y
 

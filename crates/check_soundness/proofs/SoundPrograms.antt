@@ -31,11 +31,11 @@ use Rattle.check_soundness.proofs.SoundStmts.{Thrown, HasShape, SoundCallee, lis
 -- ---- what the check says of each function
 
 -- a function whose body breaks nothing after some foreign names, and closes
-record Kept (p : Program) (f : Function) : Type 0 where
-  names : List (List ℕ)
-  breaks : (body p f names).breaks ≡ []
-  closes : closes f.body ≡ true
-  among : Among ((body p f names).state).names (foreign_names p)
+pub record Kept (p : Program) (f : Function) : Type 0 where
+  pub names : List (List ℕ)
+  pub breaks : (body p f names).breaks ≡ []
+  pub closes : closes f.body ≡ true
+  pub among : Among ((body p f names).state).names (foreign_names p)
 
 body_grows : (p : Program) (f : Function) (names : List (List ℕ)) → Among names ((body p f names).state).names
 body_grows p f names = order_names (f.body).stmts (record { program = p; result = f.result; in_loop = false }) (record { scopes = check.parameters f.params ∷ []; names = names })
@@ -111,7 +111,7 @@ module _ (ill halt : Ending) (p : Program) where
   -- ---- programs
 
   module _ (keeps : (i : ℕ) (g : Function) → slice_get p.functions i ≡ Some g → Kept p g) where
-    calls_sound : (d : ℕ) → SoundCallee halt p (guarded_calls ill halt p d) (calls p d)
+    pub calls_sound : (d : ℕ) → SoundCallee halt p (guarded_calls ill halt p d) (calls p d)
     calls_sound zero = record { at = λ f g xs w is fit. record { same = refl; so = tt } }
     calls_sound (suc d) = record { at = λ f g xs w is fit.
         subst (λ o. Keeps halt {V = Unit {0}} (λ u. ⊥) (λ u. ⊥) (HasShape g.result) (Thrown p) (with_sound ill halt o w (λ g. guarded_body ill halt p d (guarded_calls ill halt p d) g xs w)) (with_value o w (λ g. body_of p d (calls p d) g xs w))) (sym is)
@@ -144,6 +144,14 @@ main_known (Some f) h =
     let both = neither (nat_lt 0 (length f.params)) (not (is_word f.result)) (unbroken f.span.start MainShape (nat_lt 0 (length f.params) || not (is_word f.result)) [] h).0 in
     (f, refl, both.0, not_false (is_word f.result) both.1)
 
+-- each function of a program that keeps every rule
+pub well_kept : (p : Program) → IsWellShaped p → (i : ℕ) (g : Function) → slice_get p.functions i ≡ Some g → Kept p g
+well_kept p well =
+    let main_rules = main_breaks (function_of (codes "main") p) in
+    let heads = exception_heads [] p.exceptions ++ function_heads [] p.functions in
+    let light = append_none (heads ++ main_rules ++ bodies p p.functions []) (weight_breaks p) well in
+    all_kept p p.functions [] (append_none (heads ++ main_rules) (bodies p p.functions []) light.0).1 (among_same (foreign_names p))
+
 pub guarded_same : (ill halt : Ending) (p : Program) (m : List ℕ) (r : List Replied) (n : ℕ) → IsWellShaped p → guarded ill halt p m r n ≡ seen_so halt (source p m r n)
 guarded_same ill halt p m r n well =
     let heads = exception_heads [] p.exceptions ++ function_heads [] p.functions in
@@ -153,7 +161,7 @@ guarded_same ill halt p m r n well =
     let main = append_none heads main_rules rest.0 in
     let f = main_known (function_of (codes "main") p) main.1 in
     let at = found_at (λ (g : Function). bytes_eq g.name (codes "main")) p.functions f.0 f.1 in
-    let sound = calls_sound ill halt p (all_kept p p.functions [] rest.1 (among_same (foreign_names p))) (suc n) in
+    let sound = calls_sound ill halt p (well_kept p well) (suc n) in
     let k = sound.at at.number f.0 [] (start m r n) at.stands (no_arguments ill halt p f.0 f.2) in
     ap (λ o. seen (word_left ill halt (with_sound ill halt o (start m r n) (λ i. guarded_calls ill halt p (suc n) i [] (start m r n))))) at.is
     ∙ word_is_left ill halt p (f.0).result _ _ f.3 k

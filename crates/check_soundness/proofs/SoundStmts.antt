@@ -41,7 +41,7 @@ use Rattle.check_soundness.proofs.Alike.{spread_same}
 use Rattle.check_soundness.proofs.AlikeScopes.{at_shape}
 use Rattle.check_soundness.proofs.Rules.{unbroken, append_none, neither, not_false}
 use Rattle.check_soundness.proofs.Fitting.{Fits, fits_alike, fits_declare, fits_assign, fits_drop, fits_more, value_fits, values_fit, variable_fits, ArgumentsFit, differ_none}
-use Rattle.check_soundness.proofs.OwnRules.{own_done, own_alike}
+use Rattle.check_soundness.proofs.OwnRules.{own_alike}
 use Rattle.check_soundness.proofs.CheckedStmts.{do_roll, closes_roll, target_outer, handle_scopes, outer_order, outer_same, has_name, own_name, Among, among_same, among_then, order_names}
 use Rattle.check_soundness.proofs.Named.{position_is, found_at, any_found, some_is, some_of}
 use Rattle.check_soundness.proofs.Alone.{without_fuel, sure_choice, tested_alone}

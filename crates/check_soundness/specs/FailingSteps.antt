@@ -1,9 +1,9 @@
 -- When an expression or a statement makes a failing step.
-use Rattle.std.specs.Prelude.{◌≡◌, ℕ, ◌%◌, false, List, [], ◌∷◌, map, slice_get, Option, Some, None}
+use Rattle.std.specs.Prelude.{◌≡◌, ℕ, ◌%◌, true, false, List, [], ◌∷◌, map, slice_get, Option, Some, None}
 use Rattle.pan_base.specs.declared.events.Size.{Size}
 use Rattle.pan_base.specs.declared.text.Text.{Text}
 use Rattle.pan_control.specs.Memory.{is_shared, byte_at, with_byte, bytes_at, words_at, with_words}
-use Rattle.pan_tree.specs.Shapes.{words_of}
+use Rattle.pan_tree.specs.Shapes.{words_of, shaped}
 use Rattle.pan_tree.specs.Nodes.{Expr}
 use Rattle.pan_tree.specs.Value.{Value, words_in}
 use Rattle.pan_tree.specs.Meaning.{Scopes, value, word}
@@ -35,6 +35,11 @@ pub data MakesFailingStep (v : Scopes) (m : List ℕ) : ExprKind → Type 0 wher
   reads_words : (s : Shape) (a : Expr) (addr : ℕ) → word a v m ≡ Some addr → words_at m addr (words_of s) ≡ None → MakesFailingStep v m (expr.Load s a)
   reads_byte : (a : Expr) (addr : ℕ) → word a v m ≡ Some addr → byte_at m addr ≡ None → MakesFailingStep v m (expr.LoadByte a)
   in_part : (e : ExprKind) (i : ℕ) (a : Expr) → slice_get (parts e) i ≡ Some a → MakesFailingStep v m a.kind → MakesFailingStep v m e
+
+-- a value of this shape, or this holds
+abbrev pub ShapedOr : Type 0 → Shape → Option Value → Type 0
+ShapedOr fails s None = fails
+ShapedOr fails s (Some x) = shaped s x ≡ true
 
 -- the expressions that a statement evaluates
 abbrev pub exprs : {A : Type 0} → StmtKind-F A → List Expr

@@ -17,10 +17,13 @@ use Rattle.pan_tree.specs.declared.syntax.StmtKind.TheOpen as stmt
 use Rattle.pan_tree.specs.declared.program.Function.{Function}
 use Rattle.pan_tree.specs.declared.program.Program.{Program}
 
+-- what the check makes of a statement without its blocks
+abbrev pub own_done : {A : Type 0} → StmtKind-F A → check.Doing
+own_done {A} y = check.do_layer (map-StmtKind A check.Doing (λ _. weightless) y)
+
 -- what a statement of a function with this result breaks without its blocks, from the shapes that its variables have when it is reached
 abbrev pub own_breaks : {A : Type 0} → Program → Shape → StmtKind-F A → Scopes → List Break
-own_breaks {A} p result y v =
-    (check.do_layer (map-StmtKind A check.Doing (λ _. weightless) y) (record { program = p; result = result; in_loop = true }) 0 (record { scopes = shapes v; names = [] })).breaks
+own_breaks p result y v = (own_done y (record { program = p; result = result; in_loop = true }) 0 (record { scopes = shapes v; names = [] })).breaks
 
 abbrev pub is_empty : {A : Type 0} → List A → Bool
 is_empty [] = true

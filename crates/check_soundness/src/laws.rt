@@ -1,1 +1,49 @@
-//! What the check's rules give, on calls that do nothing.
+//! What follows from the check's rules for what expressions, statements and programs do, on calls that do nothing.
+
+ghost use Rattle.std.specs.Prelude.{◌≡◌, ℕ, List, [], None, true};
+ghost use Rattle.pan_base.specs.Events.{Replied, Ending, Fails};
+ghost use Rattle.pan_control.specs.Control.{Over};
+ghost use Rattle.pan_tree.specs.Running.{World};
+ghost use Rattle.pan_tree.specs.Nodes.{Expr};
+ghost use Rattle.pan_tree.specs.Check.{Scopes as Checked, Context, State, judged, IsWellShaped};
+ghost use Rattle.pan_tree.specs.Meaning.{Scopes, Does, value, own_weight, source};
+ghost use Rattle.pan_tree.specs.declared.shape.Shape.{Shape};
+ghost use Rattle.pan_tree.specs.declared.syntax.StmtKind.{StmtKind, StmtKind-F};
+ghost use Rattle.pan_tree.specs.declared.program.Program.{Program};
+ghost use Rattle.check_soundness.specs.Spread.{HaveShapes};
+ghost use Rattle.check_soundness.specs.FailingSteps.{MakesFailingStep, FailsByStep, ShapedOr};
+ghost use Rattle.check_soundness.specs.Guarded.{own_done, breaks_nothing, alone, guarded, seen_so};
+
+/// From variables of the shapes that the check knows, an expression that breaks no rule gives a value of the shape that the
+/// check gives it, or makes a failing step; and whatever makes a failing step gives nothing.
+pub fn expressions_keep_shapes()
+    ensures shaped { (e : Expr) (checked : Checked) (variables : Scopes) (memory : List ℕ)
+        → HaveShapes checked variables → (judged e checked).breaks ≡ []
+        → ShapedOr (MakesFailingStep variables memory e.kind) (judged e checked).shape (value e variables memory) }
+    ensures nothing { (e : Expr) (variables : Scopes) (memory : List ℕ)
+        → MakesFailingStep variables memory e.kind → value e variables memory ≡ None }
+{}
+
+/// A statement that breaks no rule with the shapes that its variables have when it is reached fails by itself only by a
+/// failing step: an expression's, or of its own at memory or the window.
+pub fn statements_fail_by_steps()
+    ensures { (program : Program) (result : Shape) (statement : StmtKind-F Does) (variables : Scopes) (world end : World)
+        → breaks_nothing program result statement variables ≡ true
+        → alone program statement variables world ≡ Over Fails end
+        → FailsByStep variables world.memory statement }
+{}
+
+/// In no run of a program that keeps every rule is there anything else than the check says, whatever end that were to
+/// have, and it fails only where a statement that breaks no rule fails by itself.
+pub fn checked_programs_are_guarded()
+    ensures { (ill halt : Ending) (program : Program) (memory : List ℕ) (replies : List Replied) (fuel : ℕ)
+        → IsWellShaped program
+        → guarded ill halt program memory replies fuel ≡ seen_so halt (source program memory replies fuel) }
+{}
+
+/// From variables of the shapes that the check knows, a statement is as much work without its blocks as it weighs so by the check.
+pub fn work_is_weight()
+    ensures { (context : Context) (place : ℕ) (state : State) (statement : StmtKind-F StmtKind) (variables : Scopes)
+        → HaveShapes state.scopes variables
+        → own_weight context.program statement variables ≡ (own_done statement context place state).weight }
+{}

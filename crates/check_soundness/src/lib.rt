@@ -2,3 +2,7 @@
 #![tactic(auto)]
 
 mod laws;
+
+pub use laws::{
+    checked_programs_are_guarded, expressions_keep_shapes, statements_fail_by_steps, work_is_weight,
+};

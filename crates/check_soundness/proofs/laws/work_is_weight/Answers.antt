@@ -1,0 +1,5 @@
+use Rattle.check_soundness.proofs.KeptShapes.{statement_weighs}
+use Rattle.check_soundness.proofs.laws.work_is_weight.Goals as goal
+
+pub returns : goal.returns
+returns c context place state statement variables h = statement_weighs context place state statement variables (record { same = h })
