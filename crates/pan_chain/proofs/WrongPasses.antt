@@ -1,6 +1,6 @@
 -- What no pass may do.
 use Rattle.std.specs.Prelude.{◌⊎◌}
-use Rattle.std.proofs.Common.{◌≡◌, ℕ, zero, suc, ◌+◌, ◌≤◌, ◌<◌, List, [], refl, sym, ap, ◌∙◌, inl, inr, arith}
+use Rattle.std.proofs.Common.{◌≡◌, ℕ, zero, suc, ◌+◌, ◌≤◌, [], refl, sym, ap, ◌∙◌, inl, inr, arith}
 use Rattle.pan_base.specs.Events.{Ending, Exit, Spent, Stack, Behaviour, only}
 use Rattle.pan_base.specs.Lawful.{IsLawfulMemory, IsLawfulStack}
 use Rattle.pan_stage.specs.Stage.{Keeps, KeepsOverStack, IsSeenAs, IsCutShort, RunsInSteps, IsDoneInSteps, IsCutShortInSteps}
@@ -16,14 +16,11 @@ pub no_dearer : (toll : ℕ) → Keeps (sample (only (Exit 0)) 64 toll) (sample 
 no_dearer toll k = let s = k.seen [] [] 0 no_memory (λ e. cc) in let h = s.toll in omega (arith, h)
 
 pub no_other_end : (toll : ℕ) → Keeps (sample (only (Exit 0)) 64 toll) (sample (only (Exit 1)) 64 toll) → ⊥
-no_other_end toll k = let s = k.seen [] [] 0 no_memory (λ e. cc) in let same : Exit 1 ≡ Exit 0 = ap (λ (b : Behaviour). b.ending) s.behaviour in other (ap value same)
+no_other_end toll k = let s = k.seen [] [] 0 no_memory (λ e. cc) in let same : Exit 1 ≡ Exit 0 = ap (λ (b : Behaviour). b.ending) s.behaviour in let h = ap value same in omega (arith, h)
   where
     value : Ending → ℕ
     value (Exit n) = n
     value _ = 0
-
-    other : 1 ≡ 0 → ⊥
-    other e = omega (arith, e)
 
 pub no_other_cost : (toll : ℕ) → Keeps (sample (only (Exit 0)) 64 toll) (sample (only (Exit 0)) 80 toll) → ⊥
 no_other_cost toll k = let s = k.seen [] [] 0 no_memory (λ e. cc) in let h = s.deepest in omega (arith, h)

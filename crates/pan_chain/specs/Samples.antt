@@ -1,8 +1,7 @@
 -- Stages and machines on which it is tried what a pass may do.
 use Rattle.std.specs.Prelude.{ℕ, zero, suc, [], ◌∷◌}
 use Rattle.pan_base.specs.Events.{Exit, Spent, Stack, Behaviour, only}
-use Rattle.pan_control.specs.Seen.{Seen}
-use Rattle.pan_stage.specs.Stage.{Face, Stage, StackStage, InSteps}
+use Rattle.pan_stage.specs.Stage.{Face, Stage, StackStage}
 
 -- one function, main
 abbrev pub one_function : Face
