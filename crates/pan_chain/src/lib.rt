@@ -2,5 +2,7 @@
 #![tactic(auto)]
 
 mod laws;
+mod refused;
 
 pub use laws::chain;
+pub use refused::refuses_wrong_passes;

@@ -1,6 +1,6 @@
 -- Laws of data memory: what is written is read, another place is as it was, and a number is the row of its bytes.
-use Rattle.std.specs.Prelude.{◌⊎◌, ◌&&◌, if◌then◌else◌, nat_eq, nat_le, slice_index, slice_set, option_map, option_and_then}
-use Rattle.std.specs.Int.{w64, w8, to_le_bytes, from_le_bytes}
+use Rattle.std.specs.Prelude.{◌⊎◌, ◌&&◌, if◌then◌else◌, nat_eq, slice_index, slice_set, option_map, option_and_then}
+use Rattle.std.specs.Int.{w64, to_le_bytes, from_le_bytes}
 use Rattle.std.proofs.Common.{◌≡◌, ℕ, zero, suc, ◌+◌, ◌-◌, ◌*◌, ◌/◌, ◌%◌, ◌^◌, ◌≤◌, ◌<◌, List, [], ◌∷◌, ◌++◌, length, take, drop, Option, Some, None, Bool, true, false, refl, sym, ap, subst, ◌∙◌, arith, inl, inr, append_assoc}
 use Rattle.std.proofs.Math.Seq.{drop-append-add}
 use Rattle.std.proofs.lemmas.Bool.Decides.{nat_tests}
@@ -9,7 +9,7 @@ use Rattle.std.proofs.lemmas.Nat.{from_le_bytes-to_le_bytes_8}
 use Rattle.pan_base.specs.declared.events.Size.{Size}
 use Rattle.pan_base.specs.declared.events.Size.TheVariants.{B1, B2, B4, B8}
 use Rattle.pan_base.specs.Bytes.{is_within, number_at, with_number, number_of_bytes, with_bytes_of}
-use Rattle.pan_base.specs.Events.{byte_count, width}
+use Rattle.pan_base.specs.Events.{byte_count}
 use Rattle.pan_base.specs.Words.{IsBytes, base_address}
 use Rattle.pan_base.proofs.ByteLaws.{byte_at, with_number_length, number_elsewhere, number_read_back, number_by_bytes, written_by_bytes, number_is_small, with_number_is_small, low_part_written}
 use Rattle.pan_control.specs.Memory as local

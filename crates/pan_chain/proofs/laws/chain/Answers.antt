@@ -1,4 +1,4 @@
-use Rattle.pan_stage.proofs.Chain.{keeps_then, over_stack_then, steps_then}
+use Rattle.pan_stage.proofs.Chain.{over_stack_then, steps_then}
 use Rattle.pan_tree.specs.Meaning.{source}
 use Rattle.pan_chain.specs.Whole.{most, source_stage, machine_of}
 use Rattle.pan_chain.proofs.InTime.{within_time}
