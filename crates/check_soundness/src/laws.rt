@@ -6,7 +6,7 @@ ghost use Rattle.pan_control.specs.Control.{Over};
 ghost use Rattle.pan_tree.specs.Running.{World};
 ghost use Rattle.pan_tree.specs.Nodes.{Expr};
 ghost use Rattle.pan_tree.specs.Check.{Scopes as Checked, Context, State, judged, IsWellShaped};
-ghost use Rattle.pan_tree.specs.Meaning.{Scopes, Does, value, own_weight, source};
+ghost use Rattle.pan_tree.specs.Meaning.{Scopes, Does, value, own_weight, expr_weight, source};
 ghost use Rattle.pan_tree.specs.declared.shape.Shape.{Shape};
 ghost use Rattle.pan_tree.specs.declared.syntax.StmtKind.{StmtKind, StmtKind-F};
 ghost use Rattle.pan_tree.specs.declared.program.Program.{Program};
@@ -41,9 +41,12 @@ pub fn checked_programs_are_guarded()
         → guarded ill halt program memory replies fuel ≡ seen_so halt (source program memory replies fuel) }
 {}
 
-/// From variables of the shapes that the check knows, a statement is as much work without its blocks as it weighs so by the check.
+/// From variables of the shapes that the check knows, a statement is as much work without its blocks as it weighs so by the
+/// check, and each further test of a loop as much as the condition weighs.
 pub fn work_is_weight()
-    ensures { (context : Context) (place : ℕ) (state : State) (statement : StmtKind-F StmtKind) (variables : Scopes)
+    ensures statement { (context : Context) (place : ℕ) (state : State) (statement : StmtKind-F StmtKind) (variables : Scopes)
         → HaveShapes state.scopes variables
         → own_weight context.program statement variables ≡ (own_done statement context place state).weight }
+    ensures test { (condition : Expr) (checked : Checked) (variables : Scopes)
+        → HaveShapes checked variables → expr_weight condition variables ≡ (judged condition checked).weight }
 {}
