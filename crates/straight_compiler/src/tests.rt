@@ -5,9 +5,11 @@ ghost use Rattle.pan_tree.specs.Check.{Scopes, Context, State, judged, do_kind, 
 
 use crate::compiling::compile;
 use crate::constants::push_constant;
-use crate::words::spell;
 use pan_base::{BinOp, Blob, Boxed, List, NoMemory, Size, Span, Text, single};
-use pan_tree::{BlockOf, Expr, ExprKind, Function, Program, Shape, Spanned, Stmt, StmtKind};
+use pan_tree::{
+    BlockOf, Expr, ExprKind, Function, Program, Shape, Spanned, Stmt, StmtKind, word_is_one,
+};
+use riscv_isa::spell;
 use std::alloc::Global;
 use std::test::Fail;
 use straight_form::is_straight;
@@ -48,6 +50,7 @@ const CONSTANTS: [(u64, &[u32]); 6] = [
 fn number(number: u64) -> Expr
     ensures { (v : Scopes) → (judged result v).weight ≡ 2 }
 {
+    word_is_one();
     Spanned {
         kind: ExprKind::Number(number),
         span: NOWHERE,
@@ -110,6 +113,7 @@ fn program(alloc: Global, stmts: List<Stmt>) -> Result<Program, NoMemory>
 fn image(alloc: Global, stmts: List<Stmt>) -> Result<Blob, Fail>
     requires { (c : Context) (t : State) → (in_order (map doing stmts) c t).weight ≤ 64 }
 {
+    word_is_one();
     let program = program(alloc, stmts)?;
     if !is_straight(&program) {
         return Err("not straight".into());
