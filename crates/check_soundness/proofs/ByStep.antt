@@ -13,7 +13,7 @@ use Rattle.pan_tree.specs.Value.{Value, Word, Struct, words_in}
 use Rattle.pan_tree.specs.Shapes.{is_word}
 use Rattle.pan_tree.specs.Check.{Judged, broken, breaks_of, has_no_word, judged, no_value, is_other, or_word, wrong_count, wrong_shape, function_of, exception_of, is_new_twice, is_old_unknown, is_old_other, is_too_many}
 use Rattle.pan_tree.specs.Meaning as source
-use Rattle.pan_tree.specs.Meaning.{Scopes, shapes, value, values, word, as_word, into, into_nothing, caught, number, with_reply, function_index, exception_index, foreign_index}
+use Rattle.pan_tree.specs.Meaning.{Scopes, shapes, value, values, word, as_word, into, into_nothing, caught, function_index, exception_index, foreign_index}
 use Rattle.pan_tree.specs.declared.rule.Rule.{Rule}
 use Rattle.pan_tree.specs.declared.rule.Rule.TheVariants.{TwoNames, UnknownName, UnknownFunction, UnknownException, WrongShape, WrongCount, NotWord, TooMany}
 use Rattle.pan_tree.specs.declared.shape.Shape.{Shape}

@@ -24,12 +24,13 @@ use Rattle.pan_tree.specs.declared.spanned.Spanned.{Spanned}
 use Rattle.pan_tree.specs.declared.syntax.ExprKind.{ExprKind, ExprKind-F, roll-ExprKind, out-roll-ExprKind, map-ExprKind, fold-roll-ExprKind}
 use Rattle.pan_tree.specs.declared.syntax.ExprKind.TheOpen as expr
 use Rattle.pan_tree.specs.declared.syntax.ExprKind.TheVariants as variant
+use Rattle.pan_tree.proofs.CheckLayers.{judge_roll}
 use Rattle.pan_tree.proofs.ShapeLayers.{parts_word, parts_group}
 use Rattle.check_soundness.specs.Spread.{spread}
 use Rattle.check_soundness.specs.FailingSteps.{parts_layer, MakesFailingStep, reads_words, reads_byte, in_part}
 use Rattle.check_soundness.proofs.SpreadShapes.{spread_word, spread_group, spread_parts, spread_value, word_spread, list_of, shapes_list, filled_shape}
 use Rattle.check_soundness.proofs.AlikeScopes.{innermost_shapes}
-use Rattle.check_soundness.proofs.AlikeExprs.{judge_roll, expr_induct}
+use Rattle.check_soundness.proofs.AlikeExprs.{expr_induct}
 use Rattle.check_soundness.proofs.Rules.{unbroken, append_none, head_breaks, head_word}
 
 pub value_roll : (y : ExprKind-F ExprKind) → value_kind (roll-ExprKind y) ≡ value_layer (map-ExprKind ExprKind Giving value_kind y)

@@ -8,6 +8,7 @@ use Rattle.pan_base.specs.Events.{Ending, Spent, Load, Store, Foreign, byte_coun
 use Rattle.pan_control.specs.World.{tolled}
 use Rattle.pan_control.specs.Memory.{is_shared, bytes_at, with_byte, with_words}
 use Rattle.pan_control.specs.Control.{Normal, Broken, Continued, Returned, Raised, Over, in_turn, with_value, turns, call, tail_call, if_not_zero}
+use Rattle.pan_control.specs.Runs.{number, tested_again}
 use Rattle.pan_tree.specs.Running.{World, Outcome, Callee}
 use Rattle.pan_tree.specs.Nodes.{Expr}
 use Rattle.pan_tree.specs.Scopes.{innermost}
@@ -16,7 +17,7 @@ use Rattle.pan_tree.specs.Shapes.{words_of, shape_in, is_word, same, zero_of}
 use Rattle.pan_tree.specs.Check as check
 use Rattle.pan_tree.specs.Check.{Context, State, Doing, Done, Judged, broken, breaks_of, has_no_word, in_order, block, doing, do_layer, do_kind, closes_layer, closes_kind, last_of, no_value, is_other, or_word, wrong_count, wrong_shape, differ, function_of, exception_of, result_of, is_new_twice, is_old_unknown, is_old_other, after_target, handler_unknown, foreign_names}
 use Rattle.pan_tree.specs.Meaning as source
-use Rattle.pan_tree.specs.Meaning.{Does, Scope, Scopes, scoped, into, into_nothing, caught, foreign, number, with_reply, tested_again, expr_weight, own_weight, value, values, word, function_index, exception_index, foreign_index, act_layer, run_layer, run_kind}
+use Rattle.pan_tree.specs.Meaning.{Does, Scope, Scopes, scoped, into, into_nothing, caught, expr_weight, own_weight, value, values, word, function_index, exception_index, foreign_index, act_layer, run_layer, run_kind}
 use Rattle.pan_tree.specs.declared.rule.Rule.{Rule}
 use Rattle.pan_tree.specs.declared.rule.Rule.TheVariants.{TwoNames, UnknownName, UnknownFunction, UnknownException, WrongShape, WrongCount, NotWord, LoopOutside}
 use Rattle.pan_tree.specs.declared.shape.Shape.{Shape}
@@ -32,6 +33,7 @@ use Rattle.pan_tree.specs.declared.program.Param.{Param}
 use Rattle.pan_tree.specs.declared.program.Exception.{Exception}
 use Rattle.pan_tree.specs.declared.program.Function.{Function}
 use Rattle.pan_tree.specs.declared.program.Program.{Program}
+use Rattle.pan_tree.proofs.CheckLayers.{do_roll, closes_roll}
 use Rattle.pan_tree.proofs.MeaningLayers.{by_layers, run_roll}
 use Rattle.pan_tree.proofs.OwnWeights.{own_weight_same}
 use Rattle.check_soundness.specs.Spread.{spread}
@@ -42,7 +44,7 @@ use Rattle.check_soundness.proofs.AlikeScopes.{at_shape}
 use Rattle.check_soundness.proofs.Rules.{unbroken, append_none, neither, not_false}
 use Rattle.check_soundness.proofs.Fitting.{Fits, fits_alike, fits_declare, fits_assign, fits_drop, fits_more, value_fits, values_fit, variable_fits, ArgumentsFit, differ_none}
 use Rattle.check_soundness.proofs.OwnRules.{own_alike}
-use Rattle.check_soundness.proofs.CheckedStmts.{do_roll, closes_roll, target_outer, handle_scopes, outer_order, outer_same, own_name, Among, among_then, order_names}
+use Rattle.check_soundness.proofs.CheckedStmts.{target_outer, handle_scopes, outer_order, outer_same, own_name, Among, among_then, order_names}
 use Rattle.check_soundness.proofs.Named.{position_is, found_at, any_found, some_is}
 use Rattle.check_soundness.proofs.Alone.{without_fuel, sure_choice, tested_alone}
 use Rattle.check_soundness.proofs.OwnOfWhole.{whole_done, own_of_whole}
