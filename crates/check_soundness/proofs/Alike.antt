@@ -1,5 +1,5 @@
 -- Shapes whose spread shapes are equal have as many words, and are the same as the same shapes.
-use Rattle.std.proofs.Common.{◌≡◌, ℕ, zero, suc, ◌+◌, Bool, true, false, ◌&&◌, not, List, [], ◌∷◌, map, sum, length, replicate, Option, Some, None, slice_get, refl, sym, ap, subst, arith, ◌∙◌}
+use Rattle.std.proofs.Common.{◌≡◌, ℕ, zero, suc, ◌+◌, Bool, true, false, ◌&&◌, List, [], ◌∷◌, map, sum, replicate, Option, Some, None, slice_get, refl, sym, ap, subst, arith, ◌∙◌}
 use Rattle.std.specs.Prelude.{option_map}
 use Rattle.std.proofs.lemmas.List.Sums.{sum_by-cons}
 use Rattle.std.proofs.lemmas.Option.{slice_get-map}
@@ -8,7 +8,7 @@ use Rattle.pan_tree.specs.Check.{part_shape, is_of_word, is_no_part}
 use Rattle.pan_tree.specs.declared.shape.Shape.{Shape, Shape-F, roll-Shape, map-Shape}
 use Rattle.pan_tree.specs.declared.shape.Shape.TheOpen as open_shape
 use Rattle.pan_tree.specs.declared.shape.Shape.TheVariants as shape
-use Rattle.pan_tree.proofs.ShapeLayers.{words_word, words_words, words_group, parts_word, parts_group, is_word_word, same_word, same_words, same_group}
+use Rattle.pan_tree.proofs.ShapeLayers.{words_word, words_words, words_group, parts_group, is_word_word, same_word, same_words, same_group}
 use Rattle.check_soundness.specs.Spread.{spread}
 use Rattle.check_soundness.proofs.SpreadShapes.{shape_induct, spread_word, spread_words, spread_group, spread_parts, same_spread}
 

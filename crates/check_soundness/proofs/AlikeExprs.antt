@@ -1,5 +1,5 @@
 -- The check says the same of an expression where the shapes of the variables are the same up to spreading.
-use Rattle.std.proofs.Common.{◌≡◌, ℕ, ◌+◌, ◌*◌, Bool, true, false, ◌||◌, not, List, [], ◌∷◌, ◌++◌, map, sum, length, Option, Some, None, refl, sym, ap, subst, ◌∙◌}
+use Rattle.std.proofs.Common.{◌≡◌, ℕ, ◌+◌, ◌*◌, Bool, true, false, ◌||◌, not, List, [], ◌∷◌, ◌++◌, map, Option, Some, None, refl, sym, ap, subst, ◌∙◌}
 use Rattle.std.specs.Prelude.{option_map, nat_lt}
 use Rattle.std.specs.Option.{is_some}
 use Rattle.std.specs.List.{list_any}
@@ -14,18 +14,15 @@ use Rattle.pan_tree.specs.declared.rule.Rule.TheVariants.{UnknownName, ShapeTooW
 use Rattle.pan_tree.specs.declared.shape.Shape.{Shape}
 use Rattle.pan_tree.specs.declared.shape.Shape.TheVariants as shape
 use Rattle.pan_tree.specs.declared.spanned.Spanned.{Spanned}
-use Rattle.pan_tree.specs.declared.syntax.ExprKind.{ExprKind, ExprKind-F, ind-ExprKind, roll-ExprKind, map-ExprKind, fold-roll-ExprKind}
+use Rattle.pan_tree.specs.declared.syntax.ExprKind.{ExprKind, ExprKind-F, ind-ExprKind, roll-ExprKind, map-ExprKind}
 use Rattle.pan_tree.specs.declared.syntax.ExprKind.TheOpen as expr
+use Rattle.pan_tree.proofs.CheckLayers.{judge_roll}
 use Rattle.check_soundness.specs.Spread.{spread}
 use Rattle.check_soundness.proofs.SpreadShapes.{spread_group}
 use Rattle.check_soundness.proofs.Alike.{sum_more, same_size, same_is_word, spread_part, part_spread, part_shape_alike, of_word_alike, no_part_alike}
 use Rattle.check_soundness.proofs.AlikeScopes.{AlikeScopes, alike_innermost}
 
 -- ---- layers
-
-pub judge_roll : (y : ExprKind-F ExprKind) → judge_kind (roll-ExprKind y) ≡ judge_layer (map-ExprKind ExprKind Judging judge_kind y)
-unfolding judge_kind
-judge_roll y = fold-roll-ExprKind Judging judge_layer y
 
 pub expr_induct : (P : ExprKind → Type 0) → ((y : ExprKind-F ((k : ExprKind) × P k)) → P (roll-ExprKind (map-ExprKind ((k : ExprKind) × P k) ExprKind (λ c. c.0) y))) → (k : ExprKind) → P k
 expr_induct P at k = ind-ExprKind P (λ x y is. subst (λ x. P (roll-ExprKind x)) is (at y)) k

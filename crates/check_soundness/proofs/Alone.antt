@@ -2,10 +2,11 @@
 use Rattle.std.proofs.Common.{◌≡◌, ℕ, zero, suc, List, [], ◌∷◌, map, Option, Some, None, refl}
 use Rattle.pan_base.specs.Events.{Ending, Spent}
 use Rattle.pan_control.specs.Control.{Normal, Over, with_value, if_not_zero, spend, after_body}
+use Rattle.pan_control.specs.Runs.{tested_again}
 use Rattle.pan_tree.specs.Running.{World, Outcome}
 use Rattle.pan_tree.specs.Nodes.{Expr}
 use Rattle.pan_tree.specs.Value.{Value}
-use Rattle.pan_tree.specs.Meaning.{Does, Scopes, scoped, tested_again, expr_weight, word}
+use Rattle.pan_tree.specs.Meaning.{Does, Scopes, scoped, expr_weight, word}
 use Rattle.pan_tree.specs.declared.spanned.Spanned.{Spanned}
 use Rattle.pan_tree.specs.declared.syntax.BlockOf.{BlockOf}
 use Rattle.pan_tree.specs.declared.syntax.StmtKind.TheOpen as stmt

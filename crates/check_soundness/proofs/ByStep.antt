@@ -1,21 +1,19 @@
 -- A statement that breaks nothing when it is reached fails by itself only where it makes a failing step.
 use Rattle.std.proofs.Common.{◌≡◌, ℕ, zero, suc, ◌%◌, ◌^◌, ◌*◌, Bool, true, false, ◌&&◌, ◌||◌, not, List, [], ◌∷◌, ◌++◌, map, Option, Some, None, slice_get, refl, sym, ap, subst, ◌∙◌}
 use Rattle.std.specs.Prelude.{option_map}
-use Rattle.std.specs.Option.{is_some, option_map_or}
 use Rattle.std.specs.Str.{bytes_eq}
-use Rattle.pan_base.specs.Events.{Asked, Replied, Ending, Fails, Spent, Load, Store, Foreign, fits, byte_count}
+use Rattle.pan_base.specs.Events.{Asked, Replied, Fails, Spent, Load, Store, Foreign, fits, byte_count}
 use Rattle.pan_control.specs.Memory.{is_shared, bytes_at, with_byte, with_words}
-use Rattle.pan_control.specs.Control.{Normal, Returned, Raised, Over, with_value, where_true, ask, ask_of, ask_fit, if_not_zero, spend, call, tail_call, after_call, left}
+use Rattle.pan_control.specs.Control.{Normal, Returned, Raised, Over, with_value, where_true, ask, ask_of, ask_fit, if_not_zero, spend}
 use Rattle.pan_control.specs.World.{leaving}
 use Rattle.pan_tree.specs.Running.{World, Outcome}
 use Rattle.pan_tree.specs.Nodes.{Expr}
 use Rattle.pan_tree.specs.Scopes.{innermost, declare, assign, is_declared}
 use Rattle.pan_tree.specs.Value.{Value, Word, Struct, words_in}
-use Rattle.pan_tree.specs.Shapes.{is_word, same}
-use Rattle.pan_tree.specs.Check as check
-use Rattle.pan_tree.specs.Check.{Break, Context, State, Done, Judged, broken, breaks_of, has_no_word, judged, no_value, is_other, or_word, wrong_count, wrong_shape, function_of, exception_of, result_of, is_new_twice, is_old_unknown, is_old_other, is_too_many}
+use Rattle.pan_tree.specs.Shapes.{is_word}
+use Rattle.pan_tree.specs.Check.{Judged, broken, breaks_of, has_no_word, judged, no_value, is_other, or_word, wrong_count, wrong_shape, function_of, exception_of, is_new_twice, is_old_unknown, is_old_other, is_too_many}
 use Rattle.pan_tree.specs.Meaning as source
-use Rattle.pan_tree.specs.Meaning.{Scopes, shapes, value, values, word, as_word, into, into_nothing, caught, number, with_reply, function_index, exception_index, foreign_index}
+use Rattle.pan_tree.specs.Meaning.{Scopes, shapes, value, values, word, as_word, into, into_nothing, caught, function_index, exception_index, foreign_index}
 use Rattle.pan_tree.specs.declared.rule.Rule.{Rule}
 use Rattle.pan_tree.specs.declared.rule.Rule.TheVariants.{TwoNames, UnknownName, UnknownFunction, UnknownException, WrongShape, WrongCount, NotWord, TooMany}
 use Rattle.pan_tree.specs.declared.shape.Shape.{Shape}

@@ -1,5 +1,5 @@
 -- What the check makes of statements: the outer variables stay, foreign names only come, and what breaks nothing has parts that break nothing.
-use Rattle.std.proofs.Common.{◌≡◌, ℕ, Bool, true, false, ◌&&◌, ◌||◌, List, [], ◌∷◌, ◌++◌, map, drop, Option, Some, None, refl, sym, ap, subst, ◌∙◌}
+use Rattle.std.proofs.Common.{◌≡◌, ℕ, Bool, true, false, ◌||◌, List, [], ◌∷◌, ◌++◌, map, drop, Option, Some, None, refl, sym, ap, subst, ◌∙◌}
 use Rattle.std.specs.Prelude.{if◌then◌else◌}
 use Rattle.std.specs.List.{list_any}
 use Rattle.std.specs.Option.{option_map_or}
@@ -13,23 +13,13 @@ use Rattle.pan_tree.specs.declared.program.Exception.{Exception}
 use Rattle.pan_tree.specs.declared.shape.Shape.{Shape}
 use Rattle.pan_tree.specs.declared.shape.Shape.TheVariants as shape
 use Rattle.pan_tree.specs.declared.spanned.Spanned.{Spanned}
-use Rattle.pan_tree.specs.declared.syntax.CallOf.{CallOf}
 use Rattle.pan_tree.specs.declared.syntax.HandlerOf.{HandlerOf}
 use Rattle.pan_tree.specs.declared.syntax.Target.{Target}
 use Rattle.pan_tree.specs.declared.syntax.Target.TheVariants as target
-use Rattle.pan_tree.specs.declared.syntax.StmtKind.{StmtKind, StmtKind-F, roll-StmtKind, out-StmtKind, roll-out-StmtKind, map-StmtKind, fold-roll-StmtKind}
+use Rattle.pan_tree.specs.declared.syntax.StmtKind.{StmtKind, StmtKind-F, out-StmtKind, roll-out-StmtKind, map-StmtKind}
 use Rattle.pan_tree.specs.declared.syntax.StmtKind.TheOpen as stmt
+use Rattle.pan_tree.proofs.CheckLayers.{do_roll}
 use Rattle.pan_tree.proofs.MeaningLayers.{by_layers}
-
--- ---- layers
-
-pub do_roll : (y : StmtKind-F StmtKind) → do_kind (roll-StmtKind y) ≡ do_layer (map-StmtKind StmtKind Doing do_kind y)
-unfolding do_kind
-do_roll y = fold-roll-StmtKind Doing do_layer y
-
-pub closes_roll : (y : StmtKind-F StmtKind) → closes_kind (roll-StmtKind y) ≡ closes_layer (map-StmtKind StmtKind Bool closes_kind y)
-unfolding closes_kind
-closes_roll y = fold-roll-StmtKind Bool closes_layer y
 
 -- ---- the outer variables
 

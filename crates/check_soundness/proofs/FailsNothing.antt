@@ -5,12 +5,12 @@ use Rattle.pan_base.specs.Words.{operate, negate, truth}
 use Rattle.pan_base.specs.declared.operators.BinOp.{BinOp}
 use Rattle.pan_control.specs.Memory.{byte_at, words_at}
 use Rattle.pan_tree.specs.Nodes.{Expr}
-use Rattle.pan_tree.specs.Value.{Value, Word, Struct, values_of, part, part_of_part}
+use Rattle.pan_tree.specs.Value.{Value, Word, Struct, values_of, part_of_part}
 use Rattle.pan_tree.specs.Shapes.{words_of, filled}
 use Rattle.pan_tree.specs.Meaning as source
 use Rattle.pan_tree.specs.Meaning.{Scopes, Giving, as_word, all_given, shifted, value_layer, value_kind, value}
 use Rattle.pan_tree.specs.declared.spanned.Spanned.{Spanned}
-use Rattle.pan_tree.specs.declared.syntax.ExprKind.{ExprKind, ExprKind-F, roll-ExprKind, out-ExprKind, roll-out-ExprKind, map-ExprKind}
+use Rattle.pan_tree.specs.declared.syntax.ExprKind.{ExprKind, ExprKind-F, out-ExprKind, roll-out-ExprKind, map-ExprKind}
 use Rattle.pan_tree.specs.declared.syntax.ExprKind.TheOpen as expr
 use Rattle.pan_tree.specs.declared.syntax.ExprKind.TheVariants as variant
 use Rattle.check_soundness.specs.FailingSteps.{parts_layer, MakesFailingStep, reads_words, reads_byte, in_part}

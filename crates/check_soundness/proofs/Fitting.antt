@@ -1,15 +1,14 @@
 -- Variables that have the shapes of the check's, and values that fit where they go.
-use Rattle.std.proofs.Common.{◌≡◌, ◌≢◌, ℕ, zero, suc, Bool, true, false, ◌&&◌, ◌||◌, not, List, [], ◌∷◌, map, length, drop, Option, Some, None, nat_eq, refl, sym, ap, subst, ◌∙◌}
+use Rattle.std.proofs.Common.{◌≡◌, ℕ, true, false, not, List, [], ◌∷◌, map, length, drop, Option, Some, None, nat_eq, refl, sym, ap, subst, ◌∙◌}
 use Rattle.std.specs.Prelude.{option_map}
 use Rattle.std.proofs.Math.Dec.{eqb-zero-suc, eqb-suc-zero, eqb-suc-suc}
 use Rattle.pan_tree.specs.Nodes.{Expr}
 use Rattle.pan_tree.specs.Scopes.{innermost, declare, assign}
-use Rattle.pan_tree.specs.Value.{Value, Word, Struct, word_of}
-use Rattle.pan_tree.specs.Shapes.{shape_in, is_word, same}
+use Rattle.pan_tree.specs.Value.{Value}
+use Rattle.pan_tree.specs.Shapes.{shape_in, same}
 use Rattle.pan_tree.specs.Check as check
 use Rattle.pan_tree.specs.Check.{Judged, differ, is_other, no_value, or_word}
-use Rattle.pan_tree.specs.Meaning as source
-use Rattle.pan_tree.specs.Meaning.{Scope, Scopes, shapes, value, values, word, as_word, parameters}
+use Rattle.pan_tree.specs.Meaning.{Scope, Scopes, shapes, value, values, parameters}
 use Rattle.pan_tree.specs.declared.shape.Shape.{Shape}
 use Rattle.pan_tree.specs.declared.program.Param.{Param}
 use Rattle.check_soundness.specs.Spread.{spread}
@@ -18,7 +17,7 @@ use Rattle.check_soundness.proofs.SpreadShapes.{same_spread}
 use Rattle.check_soundness.proofs.AlikeScopes.{at_shape, at_shapes, AlikeScopes, innermost_shapes, declare_shapes, drop_shapes, assign_same, spread_shapes}
 use Rattle.check_soundness.proofs.AlikeExprs.{AlikeJudged, expr_alike}
 use Rattle.check_soundness.proofs.Rules.{neither, not_false}
-use Rattle.check_soundness.proofs.ShapedExprs.{ComesTo, AllComeTo, all_come, word_or_struct, expr_shaped}
+use Rattle.check_soundness.proofs.ShapedExprs.{ComesTo, AllComeTo, all_come, expr_shaped}
 
 -- the variables have these names and these shapes
 pub record Fits (s : check.Scopes) (v : Scopes) : Type 0 where

@@ -1,5 +1,5 @@
 -- Two meanings do the same, and what they leave is so.
-use Rattle.std.proofs.Common.{◌≡◌, ℕ, zero, suc, List, [], ◌∷◌, drop, Option, Some, None, Bool, true, false, refl, sym, ap, subst, ◌∙◌}
+use Rattle.std.proofs.Common.{◌≡◌, ℕ, zero, suc, List, [], ◌∷◌, Option, Some, None, Bool, true, false, refl, sym, ap, subst, ◌∙◌}
 use Rattle.pan_base.specs.Events.{Asked, Replied, Ending, Exit, Uncaught, Stopped, Asks, Spent, Stack, Fault, Fails, fits}
 use Rattle.pan_control.specs.World.{leaving}
 use Rattle.pan_control.specs.Control.{Normal, Broken, Continued, Returned, Raised, Over, and_then, with_value, where_true, if_not_zero, spend_of, spend, ask_fit, ask_of, ask, left, on_variables, after_body, turn, turns, after_call, call, tail_call}

@@ -1,13 +1,13 @@
 -- Statements and functions that the check lets pass leave variables and values of the check's shapes.
-use Rattle.std.proofs.Common.{◌≡◌, ℕ, Bool, true, false, List, [], Option, Some, None, slice_get, drop, refl, ap, sym, ◌∙◌}
-use Rattle.pan_base.specs.Events.{Ending, Exit, Uncaught, Stopped, Asks, Spent, Stack, Fault, Fails}
+use Rattle.std.proofs.Common.{◌≡◌, ℕ, Bool, true, false, List, [], Option, Some, None, slice_get, drop, refl, sym, ◌∙◌}
+use Rattle.pan_base.specs.Events.{Exit, Uncaught, Stopped, Asks, Spent, Stack, Fault, Fails}
 use Rattle.pan_control.specs.Control.{Normal, Broken, Continued, Returned, Raised, Over}
 use Rattle.pan_tree.specs.Running.{World, Outcome, Callee}
 use Rattle.pan_tree.specs.Nodes.{Expr}
 use Rattle.pan_tree.specs.Value.{Value}
 use Rattle.pan_tree.specs.Check as check
 use Rattle.pan_tree.specs.Check.{State, do_kind, closes_kind, foreign_names, IsWellShaped}
-use Rattle.pan_tree.specs.Meaning.{Scopes, value, own_weight, run_kind, calls}
+use Rattle.pan_tree.specs.Meaning.{Scopes, value, expr_weight, own_weight, run_kind, calls}
 use Rattle.pan_tree.specs.declared.shape.Shape.{Shape}
 use Rattle.pan_tree.specs.declared.shape.Shape.TheVariants as shape
 use Rattle.pan_tree.specs.declared.syntax.StmtKind.{StmtKind, StmtKind-F}
@@ -16,6 +16,7 @@ use Rattle.pan_tree.specs.declared.program.Program.{Program}
 use Rattle.pan_tree.proofs.OwnWeights.{own_weight_same}
 use Rattle.check_soundness.specs.FailingSteps.{MakesFailingStep, ShapedOr}
 use Rattle.check_soundness.specs.Guarded.{own_done}
+use Rattle.check_soundness.proofs.AlikeExprs.{expr_alike}
 use Rattle.check_soundness.proofs.ShapedExprs.{ComesTo}
 use Rattle.check_soundness.proofs.ShapedValues.{shaped_value}
 use Rattle.check_soundness.proofs.Fitting.{Fits, fits_alike, expr_fits, ArgumentsFit}
@@ -62,6 +63,10 @@ statement_keeps_shapes p result d callee shaped k l place s v w f b a =
 pub statement_weighs : (c : check.Context) (place : ℕ) (s : State) (y : StmtKind-F StmtKind) (v : Scopes) → Fits s.scopes v → own_weight c.program y v ≡ (own_done y c place s).weight
 statement_weighs c place s y v f =
     sym (own_weight_same {A = StmtKind} {B = StmtKind} (λ k. k) c.program y v) ∙ sym (own_alike {A = StmtKind} {B = StmtKind} (λ k. k) c.program c.result shape.Word c.in_loop place s _ (fits_alike s.scopes v f) y).weight
+
+-- so is what a condition weighs when a loop is tested again
+pub test_weighs : (e : Expr) (s : check.Scopes) (v : Scopes) → Fits s v → expr_weight e v ≡ (check.judged e s).weight
+test_weighs e s v f = sym (expr_alike e s _ (fits_alike s v f)).weight
 
 -- an expression that breaks no rule gives a value that passes the test of its shape, or makes a failing step
 pub expression_shaped : (e : Expr) (s : check.Scopes) (v : Scopes) (m : List ℕ) → Fits s v → (check.judged e s).breaks ≡ [] → ShapedOr (MakesFailingStep v m e.kind) (check.judged e s).shape (value e v m)

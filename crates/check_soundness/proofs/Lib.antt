@@ -17,3 +17,4 @@ pub mod SoundPrograms
 pub mod ByStep
 pub mod FailsNothing
 pub mod KeptShapes
+pub mod Refusing

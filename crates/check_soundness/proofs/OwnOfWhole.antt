@@ -1,11 +1,9 @@
 -- A statement that breaks nothing breaks nothing without its blocks.
-use Rattle.std.proofs.Common.{◌≡◌, ℕ, Bool, true, false, List, [], ◌∷◌, ◌++◌, map, Option, Some, None, refl, sym, ap, ◌∙◌}
-use Rattle.std.specs.Option.{is_some, option_map_or}
-use Rattle.std.specs.Str.{bytes_eq}
+use Rattle.std.proofs.Common.{◌≡◌, ℕ, true, List, [], ◌∷◌, Option, Some, None}
+use Rattle.std.specs.Option.{option_map_or}
 use Rattle.pan_tree.specs.Nodes.{Expr}
 use Rattle.pan_tree.specs.Check as check
 use Rattle.pan_tree.specs.Check.{Context, State, Doing, Done, doing, do_layer, do_kind, foreign_names, with_name}
-use Rattle.pan_tree.specs.Meaning.{foreign_index}
 use Rattle.pan_tree.specs.declared.shape.Shape.TheVariants as shape
 use Rattle.pan_tree.specs.declared.spanned.Spanned.{Spanned}
 use Rattle.pan_tree.specs.declared.syntax.HandlerOf.{HandlerOf}
@@ -15,7 +13,7 @@ use Rattle.pan_tree.specs.declared.syntax.StmtKind.TheOpen as stmt
 use Rattle.pan_tree.specs.declared.program.Exception.{Exception}
 use Rattle.check_soundness.specs.Guarded.{own_done}
 use Rattle.check_soundness.proofs.Rules.{append_none, none_append}
-use Rattle.check_soundness.proofs.OwnRules.{nothings, nothings_break}
+use Rattle.check_soundness.proofs.OwnRules.{nothings_break}
 
 -- a statement that goes on with a block breaks what comes before it, and what the block does
 pub and_block_none : (d : Done) (b : State → Done) → (check.and_block d b).breaks ≡ [] → (d.breaks ≡ []) × ((b d.state).breaks ≡ [])

@@ -1,24 +1,22 @@
 -- What a statement weighs and breaks without its blocks is the same from the shapes that its variables have when it is reached.
-use Rattle.std.proofs.Common.{◌≡◌, ℕ, suc, ◌+◌, Bool, true, false, ◌&&◌, ◌||◌, not, List, [], ◌∷◌, ◌++◌, map, length, Option, Some, None, nat_eq, nat_lt, refl, sym, ap, ◌∙◌}
+use Rattle.std.proofs.Common.{◌≡◌, ℕ, suc, ◌+◌, Bool, true, false, ◌&&◌, ◌||◌, not, List, [], ◌∷◌, map, length, Option, Some, None, nat_eq, nat_lt, refl, sym, ap, ◌∙◌}
 use Rattle.std.specs.Prelude.{option_map}
-use Rattle.std.specs.Option.{is_some, option_map_or}
+use Rattle.std.specs.Option.{option_map_or}
 use Rattle.pan_tree.specs.Nodes.{Expr}
-use Rattle.pan_tree.specs.Scopes.{innermost, is_declared}
+use Rattle.pan_tree.specs.Scopes.{innermost}
 use Rattle.pan_tree.specs.Shapes.{words_of, is_word, same}
 use Rattle.pan_tree.specs.Check as check
 use Rattle.pan_tree.specs.Check.{Judged, Context, State, Doing, Done, broken, breaks_of, weights, has_no_word, judged, or_word, no_value, is_other, wrong_count, wrong_shape, differ, function_of, exception_of, result_of, is_new_twice, is_old_unknown, is_old_other, target_words, after_target, handler_unknown, is_too_many, in_order, do_layer, do_kind}
 use Rattle.pan_tree.specs.Meaning.{weightless}
 use Rattle.pan_tree.specs.declared.rule.Rule.{Rule}
-use Rattle.pan_tree.specs.declared.rule.Rule.TheVariants.{TwoNames, UnknownName, UnknownFunction, UnknownException, WrongShape, WrongCount, NotWord, LoopOutside, TooMany}
+use Rattle.pan_tree.specs.declared.rule.Rule.TheVariants.{TwoNames, UnknownName, UnknownFunction, UnknownException, WrongShape, WrongCount, NotWord, TooMany}
 use Rattle.pan_tree.specs.declared.shape.Shape.{Shape}
 use Rattle.pan_tree.specs.declared.shape.Shape.TheVariants as shape
 use Rattle.pan_tree.specs.declared.spanned.Spanned.{Spanned}
-use Rattle.pan_tree.specs.declared.syntax.BlockOf.{BlockOf}
-use Rattle.pan_tree.specs.declared.syntax.CallOf.{CallOf}
 use Rattle.pan_tree.specs.declared.syntax.HandlerOf.{HandlerOf}
 use Rattle.pan_tree.specs.declared.syntax.Target.{Target}
 use Rattle.pan_tree.specs.declared.syntax.Target.TheVariants as target
-use Rattle.pan_tree.specs.declared.syntax.StmtKind.{StmtKind, StmtKind-F, map-StmtKind}
+use Rattle.pan_tree.specs.declared.syntax.StmtKind.{StmtKind-F, map-StmtKind}
 use Rattle.pan_tree.specs.declared.syntax.StmtKind.TheOpen as stmt
 use Rattle.pan_tree.specs.declared.program.Param.{Param}
 use Rattle.pan_tree.specs.declared.program.Exception.{Exception}

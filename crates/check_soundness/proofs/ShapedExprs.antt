@@ -1,16 +1,16 @@
 -- An expression that breaks no rule gives a value of its shape, or makes a failing step.
-use Rattle.std.proofs.Common.{◌≡◌, ℕ, zero, suc, Bool, true, false, not, List, [], ◌∷◌, ◌++◌, map, length, Option, Some, None, slice_get, refl, sym, ap, subst, ◌∙◌}
+use Rattle.std.proofs.Common.{◌≡◌, ℕ, suc, Bool, true, false, not, List, [], ◌∷◌, ◌++◌, map, length, Option, Some, None, slice_get, refl, sym, ap, subst, ◌∙◌}
 use Rattle.std.specs.Prelude.{option_map, option_and_then, nat_lt}
 use Rattle.std.specs.Option.{is_some}
 use Rattle.std.specs.List.{list_any}
 use Rattle.std.proofs.lemmas.Option.{slice_get-map}
-use Rattle.pan_base.specs.Words.{operate, negate, truth, base_address, bytes_in_word}
+use Rattle.pan_base.specs.Words.{operate, negate, truth}
 use Rattle.pan_base.specs.declared.operators.BinOp.{BinOp}
 use Rattle.pan_base.specs.declared.operators.ShOp.{ShOp}
 use Rattle.pan_control.specs.Memory.{byte_at, words_at}
 use Rattle.pan_tree.specs.Nodes.{Expr}
 use Rattle.pan_tree.specs.Scopes.{innermost}
-use Rattle.pan_tree.specs.Value.{Value, Word, Struct, Values, values_list, values_of, word_of, part, part_of_part}
+use Rattle.pan_tree.specs.Value.{Value, Word, Struct, Values, values_list, values_of, part, part_of_part}
 use Rattle.pan_tree.specs.Shapes.{words_of, parts_of, shape_in, shapes_in, is_word, filled, Part, APart, OfWord, NoPart, part_at, part_among, found}
 use Rattle.pan_tree.specs.Check as check
 use Rattle.pan_tree.specs.Check.{Judged, Judging, broken, breaks_of, has_no_word, whole, operators, or_word, part_shape, is_of_word, is_no_part, is_wide, judge_layer, judge_kind}
@@ -24,12 +24,13 @@ use Rattle.pan_tree.specs.declared.spanned.Spanned.{Spanned}
 use Rattle.pan_tree.specs.declared.syntax.ExprKind.{ExprKind, ExprKind-F, roll-ExprKind, out-roll-ExprKind, map-ExprKind, fold-roll-ExprKind}
 use Rattle.pan_tree.specs.declared.syntax.ExprKind.TheOpen as expr
 use Rattle.pan_tree.specs.declared.syntax.ExprKind.TheVariants as variant
+use Rattle.pan_tree.proofs.CheckLayers.{judge_roll}
 use Rattle.pan_tree.proofs.ShapeLayers.{parts_word, parts_group}
 use Rattle.check_soundness.specs.Spread.{spread}
-use Rattle.check_soundness.specs.FailingSteps.{parts_layer, parts, MakesFailingStep, reads_words, reads_byte, in_part}
+use Rattle.check_soundness.specs.FailingSteps.{parts_layer, MakesFailingStep, reads_words, reads_byte, in_part}
 use Rattle.check_soundness.proofs.SpreadShapes.{spread_word, spread_group, spread_parts, spread_value, word_spread, list_of, shapes_list, filled_shape}
 use Rattle.check_soundness.proofs.AlikeScopes.{innermost_shapes}
-use Rattle.check_soundness.proofs.AlikeExprs.{judge_roll, expr_induct}
+use Rattle.check_soundness.proofs.AlikeExprs.{expr_induct}
 use Rattle.check_soundness.proofs.Rules.{unbroken, append_none, head_breaks, head_word}
 
 pub value_roll : (y : ExprKind-F ExprKind) → value_kind (roll-ExprKind y) ≡ value_layer (map-ExprKind ExprKind Giving value_kind y)

@@ -1,6 +1,6 @@
 -- A value of a shape passes the test of that shape.
-use Rattle.std.proofs.Common.{◌≡◌, ℕ, zero, suc, Bool, true, false, ◌&&◌, List, [], ◌∷◌, map, replicate, Option, Some, None, refl, sym, ap, subst, ◌∙◌}
-use Rattle.pan_tree.specs.Value.{Value, Word, Struct, Values, none, more, values_list, word_of}
+use Rattle.std.proofs.Common.{◌≡◌, ℕ, zero, suc, Bool, true, ◌&&◌, List, [], ◌∷◌, map, replicate, Some, None, refl, sym, ap, subst, ◌∙◌}
+use Rattle.pan_tree.specs.Value.{Value, Word, Struct, Values, none, more, values_list}
 use Rattle.pan_tree.specs.Shapes.{parts_of, is_none, is_word, holds_each, some_hold, value_parts, shaped_layer, shaped, shape_in, shapes_in}
 use Rattle.pan_tree.specs.declared.shape.Shape.{Shape, Shape-F, roll-Shape, map-Shape, fold-roll-Shape}
 use Rattle.pan_tree.specs.declared.shape.Shape.TheOpen as open_shape

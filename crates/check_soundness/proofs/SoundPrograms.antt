@@ -1,18 +1,17 @@
 -- A program that the check lets pass is seen to do the same in the guarded meaning.
 use Rattle.std.proofs.Common.{◌≡◌, ℕ, zero, suc, Bool, true, false, not, ◌||◌, List, [], ◌∷◌, ◌++◌, map, length, drop, arith, Option, Some, None, slice_get, refl, sym, ap, subst, ◌∙◌}
 use Rattle.std.specs.Prelude.{codes, nat_lt}
-use Rattle.std.specs.Option.{is_some}
 use Rattle.std.specs.Str.{bytes_eq}
 use Rattle.pan_base.specs.Events.{Ending, Replied}
 use Rattle.pan_control.specs.World.{entered, tolled}
 use Rattle.pan_control.specs.Control.{Normal, Broken, Continued, Returned, Raised, Over, in_turn, with_value, left}
 use Rattle.pan_tree.specs.Running.{World, Outcome, Callee}
-use Rattle.pan_tree.specs.Value.{Value, Word, word_of}
-use Rattle.pan_tree.specs.Shapes.{shaped, is_word}
+use Rattle.pan_tree.specs.Value.{Value}
+use Rattle.pan_tree.specs.Shapes.{is_word}
 use Rattle.pan_tree.specs.Check as check
 use Rattle.pan_tree.specs.Check.{State, broken, in_order, body, bodies, closes, cost, doing, foreign_names, names_after, function_of, main_breaks, exception_heads, function_heads, weight_breaks, IsWellShaped}
-use Rattle.pan_tree.specs.Meaning.{Does, Scope, Scopes, run_kind, parameters, entry_weight, body_of, calls, function_index, source, seen, start}
-use Rattle.pan_tree.specs.declared.rule.Rule.TheVariants.{NoMain, MainShape, NoReturn}
+use Rattle.pan_tree.specs.Meaning.{Does, Scope, Scopes, run_kind, entry_weight, body_of, calls, source, seen, start}
+use Rattle.pan_tree.specs.declared.rule.Rule.TheVariants.{MainShape, NoReturn}
 use Rattle.pan_tree.specs.declared.shape.Shape.{Shape}
 use Rattle.pan_tree.specs.declared.spanned.Spanned.{Spanned}
 use Rattle.pan_tree.specs.declared.syntax.StmtKind.{StmtKind}
@@ -26,7 +25,7 @@ use Rattle.check_soundness.proofs.CheckedStmts.{Among, among_same, among_then, o
 use Rattle.check_soundness.proofs.Named.{found_at, less_true}
 use Rattle.check_soundness.proofs.ShapedValues.{shaped_value, word_value}
 use Rattle.check_soundness.proofs.Keeping.{Leaves, instead, Keeps}
-use Rattle.check_soundness.proofs.SoundStmts.{Thrown, HasShape, SoundCallee, list_closes, guard, run, guards, does, context, N, B, order_sound, all_sound}
+use Rattle.check_soundness.proofs.SoundStmts.{Thrown, HasShape, SoundCallee, list_closes, guards, does, context, order_sound, all_sound}
 
 -- ---- what the check says of each function
 
@@ -102,7 +101,7 @@ module _ (ill halt : Ending) (p : Program) where
         let real_on = λ (scope : Scope). let o : Outcome (Unit {0}) Value = left (in_turn (map (λ (s : Spanned StmtKind). run_kind p d callee s.kind) ss) (scope ∷ []) begun) in o in
         let s : State = record { scopes = check.parameters f.params ∷ []; names = kept.names } in
         let order = order_sound ill halt p f.result d callee' callee callees ss (all_sound ill halt p f.result d callee' callee callees ss) false s (b.scope ∷ []) begun
-            (fits_more (check.parameters f.params) b.scope [] [] b.shapes (record { same = refl })) kept.breaks kept.among in
+        (fits_more (check.parameters f.params) b.scope [] [] b.shapes (record { same = refl })) kept.breaks kept.among in
         subst (λ o. Keeps halt {V = Unit {0}} (λ u. ⊥) (λ u. ⊥) (HasShape f.result) (Thrown p) (with_sound ill halt o w guarded_on) (with_value o w real_on)) (sym b.is)
         (subst (λ ms. Keeps halt {V = Unit {0}} (λ u. ⊥) (λ u. ⊥) (HasShape f.result) (Thrown p) (soundly_left ill halt f.result (in_turn ms (b.scope ∷ []) begun)) (real_on b.scope)) (sym (each_guard f.result ss))
         (subst (λ ms. Keeps halt {V = Unit {0}} (λ u. ⊥) (λ u. ⊥) (HasShape f.result) (Thrown p) (soundly_left ill halt f.result (in_turn (map (λ (s : Spanned Does). s.kind) (map (guards ill halt p f.result d callee' callee callees) ss)) (b.scope ∷ []) begun)) (left (in_turn ms (b.scope ∷ []) begun))) (sym (each_run f.result ss))
@@ -113,9 +112,11 @@ module _ (ill halt : Ending) (p : Program) where
   module _ (keeps : (i : ℕ) (g : Function) → slice_get p.functions i ≡ Some g → Kept p g) where
     pub calls_sound : (d : ℕ) → SoundCallee halt p (guarded_calls ill halt p d) (calls p d)
     calls_sound zero = record { at = λ f g xs w is fit. record { same = refl; so = tt } }
-    calls_sound (suc d) = record { at = λ f g xs w is fit.
-        subst (λ o. Keeps halt {V = Unit {0}} (λ u. ⊥) (λ u. ⊥) (HasShape g.result) (Thrown p) (with_sound ill halt o w (λ g. guarded_body ill halt p d (guarded_calls ill halt p d) g xs w)) (with_value o w (λ g. body_of p d (calls p d) g xs w))) (sym is)
-        (body_sound d (guarded_calls ill halt p d) (calls p d) (calls_sound d) g (keeps f g is) xs w fit) }
+    calls_sound (suc d) = record {
+      at = λ f g xs w is fit.
+          subst (λ o. Keeps halt {V = Unit {0}} (λ u. ⊥) (λ u. ⊥) (HasShape g.result) (Thrown p) (with_sound ill halt o w (λ g. guarded_body ill halt p d (guarded_calls ill halt p d) g xs w)) (with_value o w (λ g. body_of p d (calls p d) g xs w))) (sym is)
+          (body_sound d (guarded_calls ill halt p d) (calls p d) (calls_sound d) g (keeps f g is) xs w fit);
+    }
 
   no_arguments : (f : Function) → nat_lt 0 (length f.params) ≡ false → ArgumentsFit f.params []
   no_arguments f h = by f.params h

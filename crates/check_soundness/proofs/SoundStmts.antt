@@ -1,5 +1,5 @@
 -- A statement that the check lets pass does the same in the guarded meaning, and leaves variables and values of the check's shapes.
-use Rattle.std.proofs.Common.{◌≡◌, ℕ, zero, suc, arith, ◌+◌, ◌%◌, ◌^◌, ◌*◌, Bool, true, false, ◌&&◌, ◌||◌, not, nat_eq, List, [], ◌∷◌, ◌++◌, map, length, drop, Option, Some, None, slice_get, refl, sym, ap, subst, ◌∙◌}
+use Rattle.std.proofs.Common.{◌≡◌, ℕ, arith, ◌+◌, ◌%◌, ◌^◌, ◌*◌, Bool, true, false, ◌&&◌, ◌||◌, not, nat_eq, List, [], ◌∷◌, ◌++◌, map, length, drop, Option, Some, None, slice_get, refl, sym, ap, subst, ◌∙◌}
 use Rattle.std.specs.Prelude.{option_map, if◌then◌else◌}
 use Rattle.std.specs.Option.{is_some, option_map_or}
 use Rattle.std.specs.Str.{bytes_eq}
@@ -7,18 +7,19 @@ use Rattle.std.proofs.lemmas.Bool.Decides.{nat_tests}
 use Rattle.pan_base.specs.Events.{Ending, Spent, Load, Store, Foreign, byte_count}
 use Rattle.pan_control.specs.World.{tolled}
 use Rattle.pan_control.specs.Memory.{is_shared, bytes_at, with_byte, with_words}
-use Rattle.pan_control.specs.Control.{Normal, Broken, Continued, Returned, Raised, Over, in_turn, with_value, turns, call, ask, tail_call, if_not_zero, spend, after_body}
+use Rattle.pan_control.specs.Control.{Normal, Broken, Continued, Returned, Raised, Over, in_turn, with_value, turns, call, tail_call, if_not_zero}
+use Rattle.pan_control.specs.Runs.{number, tested_again}
 use Rattle.pan_tree.specs.Running.{World, Outcome, Callee}
 use Rattle.pan_tree.specs.Nodes.{Expr}
-use Rattle.pan_tree.specs.Scopes.{innermost, declare, assign}
+use Rattle.pan_tree.specs.Scopes.{innermost}
 use Rattle.pan_tree.specs.Value.{Value, Word, words_in}
 use Rattle.pan_tree.specs.Shapes.{words_of, shape_in, is_word, same, zero_of}
 use Rattle.pan_tree.specs.Check as check
 use Rattle.pan_tree.specs.Check.{Context, State, Doing, Done, Judged, broken, breaks_of, has_no_word, in_order, block, doing, do_layer, do_kind, closes_layer, closes_kind, last_of, no_value, is_other, or_word, wrong_count, wrong_shape, differ, function_of, exception_of, result_of, is_new_twice, is_old_unknown, is_old_other, after_target, handler_unknown, foreign_names}
 use Rattle.pan_tree.specs.Meaning as source
-use Rattle.pan_tree.specs.Meaning.{Does, Scope, Scopes, scoped, into, into_nothing, caught, foreign, number, with_reply, tested_again, expr_weight, own_weight, value, values, word, function_index, exception_index, foreign_index, act_layer, run_layer, run_kind}
+use Rattle.pan_tree.specs.Meaning.{Does, Scope, Scopes, scoped, into, into_nothing, caught, expr_weight, own_weight, value, values, word, function_index, exception_index, foreign_index, act_layer, run_layer, run_kind}
 use Rattle.pan_tree.specs.declared.rule.Rule.{Rule}
-use Rattle.pan_tree.specs.declared.rule.Rule.TheVariants.{TwoNames, UnknownName, UnknownFunction, UnknownException, WrongShape, WrongCount, NotWord, LoopOutside, TooMany}
+use Rattle.pan_tree.specs.declared.rule.Rule.TheVariants.{TwoNames, UnknownName, UnknownFunction, UnknownException, WrongShape, WrongCount, NotWord, LoopOutside}
 use Rattle.pan_tree.specs.declared.shape.Shape.{Shape}
 use Rattle.pan_tree.specs.declared.shape.Shape.TheVariants as shape
 use Rattle.pan_tree.specs.declared.spanned.Spanned.{Spanned}
@@ -32,6 +33,7 @@ use Rattle.pan_tree.specs.declared.program.Param.{Param}
 use Rattle.pan_tree.specs.declared.program.Exception.{Exception}
 use Rattle.pan_tree.specs.declared.program.Function.{Function}
 use Rattle.pan_tree.specs.declared.program.Program.{Program}
+use Rattle.pan_tree.proofs.CheckLayers.{do_roll, closes_roll}
 use Rattle.pan_tree.proofs.MeaningLayers.{by_layers, run_roll}
 use Rattle.pan_tree.proofs.OwnWeights.{own_weight_same}
 use Rattle.check_soundness.specs.Spread.{spread}
@@ -42,11 +44,11 @@ use Rattle.check_soundness.proofs.AlikeScopes.{at_shape}
 use Rattle.check_soundness.proofs.Rules.{unbroken, append_none, neither, not_false}
 use Rattle.check_soundness.proofs.Fitting.{Fits, fits_alike, fits_declare, fits_assign, fits_drop, fits_more, value_fits, values_fit, variable_fits, ArgumentsFit, differ_none}
 use Rattle.check_soundness.proofs.OwnRules.{own_alike}
-use Rattle.check_soundness.proofs.CheckedStmts.{do_roll, closes_roll, target_outer, handle_scopes, outer_order, outer_same, has_name, own_name, Among, among_same, among_then, order_names}
-use Rattle.check_soundness.proofs.Named.{position_is, found_at, any_found, some_is, some_of}
+use Rattle.check_soundness.proofs.CheckedStmts.{target_outer, handle_scopes, outer_order, outer_same, own_name, Among, among_then, order_names}
+use Rattle.check_soundness.proofs.Named.{position_is, found_at, any_found, some_is}
 use Rattle.check_soundness.proofs.Alone.{without_fuel, sure_choice, tested_alone}
-use Rattle.check_soundness.proofs.OwnOfWhole.{whole_done, own_of_whole, and_block_none}
-use Rattle.check_soundness.proofs.Keeping.{Leaves, instead, Keeps, keeps_as, keeps_less, then_keeps, with_leaves, where_leaves, ask_leaves, alone_keeps, first_keeps, sure_keeps, choice_keeps, on_keeps, nowhere, spend_sure, call_keeps, tail_keeps, Tried, turns_keeps}
+use Rattle.check_soundness.proofs.OwnOfWhole.{whole_done, own_of_whole}
+use Rattle.check_soundness.proofs.Keeping.{Leaves, instead, Keeps, keeps_as, keeps_less, then_keeps, with_leaves, where_leaves, ask_leaves, alone_keeps, first_keeps, sure_keeps, choice_keeps, on_keeps, nowhere, call_keeps, tail_keeps, Tried, turns_keeps}
 
 -- an exception has a value of its shape
 abbrev pub Thrown : Program → ℕ → Value → Type 0
@@ -120,13 +122,13 @@ module _ (ill halt : Ending) (p : Program) (result : Shape) (d : ℕ) (callee' c
   abbrev pub In : Bool → check.Scopes → Scopes → Type 0
   In l t v = (l ≡ true) × Fits t v
 
-  abbrev pub Does-alike : (Scopes → Type 0) → (Scopes → Type 0) → Outcome Scopes Value → Outcome Scopes Value → Type 0
-  Does-alike M C o o' = Keeps halt M C (HasShape result) (Thrown p) o o'
+  abbrev pub DoesAlike : (Scopes → Type 0) → (Scopes → Type 0) → Outcome Scopes Value → Outcome Scopes Value → Type 0
+  DoesAlike M C o o' = Keeps halt M C (HasShape result) (Thrown p) o o'
 
   -- what the check makes of a statement, whether it closes, and what it does
   abbrev pub SoundAs : Doing → Bool → Does → Does → Type 0
   SoundAs checked closes guarded real = (l : Bool) (place : ℕ) (s : State) (v : Scopes) (w : World) → let done = checked (context l) place s in
-      Fits s.scopes v → done.breaks ≡ [] → Among (done.state).names (foreign_names p) → Does-alike (N (done.state).scopes closes) (B l s.scopes) (guarded v w) (real v w)
+      Fits s.scopes v → done.breaks ≡ [] → Among (done.state).names (foreign_names p) → DoesAlike (N (done.state).scopes closes) (B l s.scopes) (guarded v w) (real v w)
 
   abbrev pub IsSound : StmtKind → Type 0
   IsSound k = SoundAs (do_kind k) (closes_kind k) (guard k) (run k)
@@ -157,7 +159,7 @@ module _ (ill halt : Ending) (p : Program) (result : Shape) (d : ℕ) (callee' c
   -- ---- blocks
 
   pub order_sound : (ss : List (Spanned StmtKind)) → AllSound ss → (l : Bool) (s : State) (v : Scopes) (w : World) → let done = in_order (map doing ss) (context l) s in
-      Fits s.scopes v → done.breaks ≡ [] → Among (done.state).names (foreign_names p) → Does-alike (N (done.state).scopes (list_closes ss)) (B l s.scopes) (in_turn_of guards ss v w) (in_turn_of does ss v w)
+      Fits s.scopes v → done.breaks ≡ [] → Among (done.state).names (foreign_names p) → DoesAlike (N (done.state).scopes (list_closes ss)) (B l s.scopes) (in_turn_of guards ss v w) (in_turn_of does ss v w)
   order_sound [] all l s v w f b a = record { same = refl; so = (f, refl) }
   order_sound (x ∷ xs) all l s v w f b a =
       let one = do_kind x.kind (context l) x.span.start s in
@@ -179,7 +181,7 @@ module _ (ill halt : Ending) (p : Program) (result : Shape) (d : ℕ) (callee' c
   checked_block scope ss l s = block scope (record { stmts = map doing ss }) (context l) s
 
   block_sound : (scope : check.Scope) (first : Scope) (ss : List (Spanned StmtKind)) → AllSound ss → (l : Bool) (s : State) (v : Scopes) (w : World) → at_shape shape_in first ≡ at_shape spread scope → Fits s.scopes v
-      → (checked_block scope ss l s).breaks ≡ [] → Among ((checked_block scope ss l s).state).names (foreign_names p) → Does-alike (N s.scopes (list_closes ss)) (In l s.scopes) (scoped first (block_of guards ss) v w) (scoped first (block_of does ss) v w)
+      → (checked_block scope ss l s).breaks ≡ [] → Among ((checked_block scope ss l s).state).names (foreign_names p) → DoesAlike (N s.scopes (list_closes ss)) (In l s.scopes) (scoped first (block_of guards ss) v w) (scoped first (block_of does ss) v w)
   block_sound scope first ss all l s v w e f b a =
       let start : State = record s { scopes = scope ∷ s.scopes } in
       let inner = (in_order (map doing ss) (context l) start).state in
@@ -291,12 +293,12 @@ module _ (ill halt : Ending) (p : Program) (result : Shape) (d : ℕ) (callee' c
     nothing_fits (target.New x) r v f = fits_declare x r (zero_of r) s.scopes v (filled_shape r []) f
 
     caught_sound : (t : Target) (name : List ℕ) (h : Option (HandlerOf (Spanned Known))) (u : Scopes) → Fits (behind t name).scopes u → let done = check.handle (handler_doing h) (context l) (behind t name) in done.breaks ≡ [] → Among (done.state).names (foreign_names p)
-        → (i : ℕ) (a : Value) (w : World) → Thrown p i a → Does-alike (N (behind t name).scopes false) (B l s.scopes) (caught p (handler_of guards h) u i a w) (caught p (handler_of does h) u i a w)
+        → (i : ℕ) (a : Value) (w : World) → Thrown p i a → DoesAlike (N (behind t name).scopes false) (B l s.scopes) (caught p (handler_of guards h) u i a w) (caught p (handler_of does h) u i a w)
     caught_sound t name None u f b names i a w x = record { same = refl; so = x }
     caught_sound t name (Some h) u f b names i a w x = by (option_map_or (nat_eq i) (exception_index h.exception p) false) refl
       where
         by : (c : Bool) → option_map_or (nat_eq i) (exception_index h.exception p) false ≡ c
-            → Does-alike (N (behind t name).scopes false) (B l s.scopes) (if c then scoped ((h.name, a) ∷ []) (block_of guards (map plain (h.body).stmts)) u w else Raised i a w) (if c then scoped ((h.name, a) ∷ []) (block_of does (map plain (h.body).stmts)) u w else Raised i a w)
+            → DoesAlike (N (behind t name).scopes false) (B l s.scopes) (if c then scoped ((h.name, a) ∷ []) (block_of guards (map plain (h.body).stmts)) u w else Raised i a w) (if c then scoped ((h.name, a) ∷ []) (block_of does (map plain (h.body).stmts)) u w else Raised i a w)
         by false e = record { same = refl; so = x }
         by true e =
             let known : exception_of h.exception p ≡ Some x.0 = sym (position_is (λ (y : Exception). bytes_eq y.name h.exception) p.exceptions i (hit_is i (exception_index h.exception p) e)) ∙ x.1 in
@@ -308,7 +310,7 @@ module _ (ill halt : Ending) (p : Program) (result : Shape) (d : ℕ) (callee' c
 
     call_sound : (t : Target) (name : List ℕ) (es : List Expr) (h : Option (HandlerOf (Spanned Known))) (by_itself : Option (HandlerOf (Spanned Does))) (v : Scopes) (w : World) → Fits s.scopes v → (call_done t name es h).breaks ≡ []
         → Among ((call_done t name es h).state).names (foreign_names p)
-        → Does-alike (N ((call_done t name es h).state).scopes false) (B l s.scopes)
+        → DoesAlike (N ((call_done t name es h).state).scopes false) (B l s.scopes)
         (unless_failed ill halt (act_layer p 0 (nowhere ill halt (HasShape result) (Thrown p) (N [] false) (N [] false)) (stmt.Call (record { into = t; function = name; args = es; handler = by_itself })) v w)
         (act_layer p d callee' (stmt.Call (record { into = t; function = name; args = es; handler = handler_of guards h })) v w))
         (act_layer p d callee (stmt.Call (record { into = t; function = name; args = es; handler = handler_of does h })) v w)
@@ -323,7 +325,7 @@ module _ (ill halt : Ending) (p : Program) (result : Shape) (d : ℕ) (callee' c
         let guarded_calls = λ (i : ℕ). call callee' i (values es v w.memory) w give (caught p (handler_of guards h) u) in
         let real_calls = λ (i : ℕ). call callee i (values es v w.memory) w give (caught p (handler_of does h) u) in
         let calls_alone = λ (i : ℕ). call (λ f xs w. Over Spent w) i (values es v w.memory) w give (caught p by_itself u) in
-        subst (λ scopes. Does-alike (N scopes false) (B l s.scopes) (unless_failed ill halt (with_value (function_index name p) w calls_alone) (with_value (function_index name p) w guarded_calls)) (with_value (function_index name p) w real_calls)) (sym (handle_scopes (handler_doing h) (context l) (behind t name)))
+        subst (λ scopes. DoesAlike (N scopes false) (B l s.scopes) (unless_failed ill halt (with_value (function_index name p) w calls_alone) (with_value (function_index name p) w guarded_calls)) (with_value (function_index name p) w real_calls)) (sym (handle_scopes (handler_doing h) (context l) (behind t name)))
         (first_keeps ill halt (HasShape result) (Thrown p) (N (behind t name).scopes false) (B l s.scopes) (function_index name p) w calls_alone guarded_calls real_calls (λ i found.
         call_keeps ill halt (HasShape result) (Thrown p) (N (behind t name).scopes false) (B l s.scopes) (HasShape g.result) callee' callee i (values es v w.memory) w give give (caught p (handler_of guards h) u) (caught p (handler_of does h) u) give (caught p by_itself u)
         (λ xs w' given.
@@ -349,12 +351,12 @@ module _ (ill halt : Ending) (p : Program) (result : Shape) (d : ℕ) (callee' c
 
     abbrev ActSound : StmtKind-F Known → Type 0
     ActSound y = (v : Scopes) (w : World) → Fits s.scopes v → (done_of (parts y)).breaks ≡ [] → Among ((done_of (parts y)).state).names (foreign_names p)
-        → Does-alike (N ((done_of (parts y)).state).scopes (closing y)) (B l s.scopes) (tried_act (guarded_parts y) v w) (act_layer p d callee (running_parts y) v w)
+        → DoesAlike (N ((done_of (parts y)).state).scopes (closing y)) (B l s.scopes) (tried_act (guarded_parts y) v w) (act_layer p d callee (running_parts y) v w)
 
     rules_kept : (js : List Judged) (rules : List (Rule × Bool)) → breaks_of js ++ broken place rules ≡ [] → broken place rules ≡ []
     rules_kept js rules b = (append_none (breaks_of js) (broken place rules) b).1
 
-    again_keeps : (M : Scopes → Type 0) (weight : Scopes → ℕ) (o o' : Outcome Scopes Value) → Does-alike M M o o' → Does-alike M M (tested_again weight o) (tested_again weight o')
+    again_keeps : (M : Scopes → Type 0) (weight : Scopes → ℕ) (o o' : Outcome Scopes Value) → DoesAlike M M o o' → DoesAlike M M (tested_again weight o) (tested_again weight o')
     again_keeps M weight o o' k = record { same = ap (tested_again weight) k.same ∙ on o'; so = by o' k.so }
       where
         on : (o : Outcome Scopes Value) → tested_again weight (instead halt o) ≡ instead halt (tested_again weight o)

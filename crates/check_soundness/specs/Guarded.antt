@@ -5,12 +5,13 @@ use Rattle.pan_base.specs.Events.{Replied, Ending, Spent, Fails}
 use Rattle.pan_control.specs.World.{entered, tolled}
 use Rattle.pan_control.specs.Seen.{Seen}
 use Rattle.pan_control.specs.Control.{Normal, Broken, Continued, Returned, Raised, Over, in_turn, turns}
+use Rattle.pan_control.specs.Runs.{tested_again}
 use Rattle.pan_tree.specs.Running.{World, Outcome, Callee}
 use Rattle.pan_tree.specs.Value.{Value, word_of}
 use Rattle.pan_tree.specs.Shapes.{shaped}
 use Rattle.pan_tree.specs.Check as check
 use Rattle.pan_tree.specs.Check.{Break, cost}
-use Rattle.pan_tree.specs.Meaning.{Does, Scopes, shapes, weightless, own_weight, expr_weight, tested_again, scoped, word, function_index, foreign_index, act_layer, parameters, entry_weight, seen, start}
+use Rattle.pan_tree.specs.Meaning.{Does, Scopes, shapes, weightless, own_weight, expr_weight, scoped, word, function_index, foreign_index, act_layer, parameters, entry_weight, seen, start}
 use Rattle.pan_tree.specs.declared.shape.Shape.{Shape}
 use Rattle.pan_tree.specs.declared.syntax.StmtKind.{StmtKind, StmtKind-F, fold-StmtKind, map-StmtKind}
 use Rattle.pan_tree.specs.declared.syntax.StmtKind.TheOpen as stmt

@@ -4,5 +4,6 @@
 mod laws;
 
 pub use laws::{
-    checked_programs_are_guarded, expressions_keep_shapes, statements_fail_by_steps, work_is_weight,
+    checked_programs_are_guarded, expressions_keep_shapes, refuses_what_is_ill,
+    statements_fail_by_steps, work_is_weight,
 };
