@@ -23,19 +23,12 @@ use Rattle.pan_runner.specs.declared.value.Value.{Value}
 
 -- ---- what follows
 
--- a word, and none
-pub word_some : {A : Type 0} (o x : Option A) (a : A) (next : A → Config) → x ≡ Some a → x ≡ o → or_fails o next ≡ next a
-word_some o x a next is e = ap (λ o. or_fails o next) (sym e ∙ is)
+-- a value, and none
+pub given : {A : Type 0} (o : Option A) (a : A) (next : A → Config) → o ≡ Some a → or_fails o next ≡ next a
+given o a next is = ap (λ o. or_fails o next) is
 
-pub word_none : {A : Type 0} (o x : Option A) (next : A → Config) → x ≡ None → x ≡ o → or_fails o next ≡ Over Fails
-word_none o x next is e = ap (λ o. or_fails o next) (sym e ∙ is)
-
--- what is seen of a value or of values, and none
-pub seen_some : {X A : Type 0} (f : X → A) (o : Option A) (x : Option X) (v : X) (next : A → Config) → x ≡ Some v → option_map f x ≡ o → or_fails o next ≡ next (f v)
-seen_some f o x v next is e = ap (λ o. or_fails o next) (sym e ∙ ap (option_map f) is)
-
-pub seen_none : {X A : Type 0} (f : X → A) (o : Option A) (x : Option X) (next : A → Config) → x ≡ None → option_map f x ≡ o → or_fails o next ≡ Over Fails
-seen_none f o x next is e = ap (λ o. or_fails o next) (sym e ∙ ap (option_map f) is)
+pub missing : {A : Type 0} (o : Option A) (next : A → Config) → o ≡ None → or_fails o next ≡ Over Fails
+missing o next none = ap (λ o. or_fails o next) none
 
 -- a test that holds, and one that fails
 pub where_so : (b : Bool) (next : Config) → b ≡ true → unless_false b next ≡ next

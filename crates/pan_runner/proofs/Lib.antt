@@ -7,6 +7,7 @@ pub mod FewNames
 pub mod FillLemmas
 pub mod FramesLemmas
 pub mod GivingLayers
+pub mod Halts
 pub mod Images
 pub mod Later
 pub mod Lighter

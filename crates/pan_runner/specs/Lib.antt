@@ -7,6 +7,7 @@ pub mod Slots
 pub mod Evaluating
 pub mod Unbounded
 pub mod Machine
+pub mod Halting
 pub mod Going
 pub mod Weight
 pub mod Ahead

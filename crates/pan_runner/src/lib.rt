@@ -4,6 +4,7 @@
 mod asker;
 mod directory;
 mod evaluating;
+mod halt;
 mod leaving;
 mod local_memory;
 mod memory;
