@@ -4,17 +4,17 @@ use Rattle.std.specs.Prelude.{option_map, unwrap_or, slice_get}
 use Rattle.std.proofs.lemmas.List.{map-append}
 use Rattle.pan_base.specs.Events.{Fails}
 use Rattle.pan_runner.specs.Told.{told, all_told}
-use Rattle.pan_runner.specs.Slots.{Variables}
+use Rattle.source_resolver.specs.Slots.{Variables}
 use Rattle.pan_control.specs.Control.{if_not_zero}
 use Rattle.pan_runner.specs.Machine.{Frame, Block, Loop, Called, Next, Becomes, Enter, Leave, Config, Runs, Spends, Over, or_fails, unless_false}
 use Rattle.pan_runner.specs.View.{config_in, frame_of, statement_at}
 use Rattle.pan_runner.specs.Runner.{variables_of, frames_of, begins, leaves, KeepsAll}
 use Rattle.pan_runner.specs.declared.runner.Runner.{Runner}
-use Rattle.pan_runner.specs.declared.resolved.Expr.{Expr}
-use Rattle.pan_runner.specs.declared.resolved.Stmt.{Stmt}
-use Rattle.pan_runner.specs.declared.resolved.Stmt.TheVariants as stmt
-use Rattle.pan_runner.specs.declared.resolved.Target.{Target}
-use Rattle.pan_runner.specs.declared.resolved.HandlerOf.{HandlerOf}
+use Rattle.source_resolver.specs.declared.resolved.Expr.{Expr}
+use Rattle.source_resolver.specs.declared.resolved.Stmt.{Stmt}
+use Rattle.source_resolver.specs.declared.resolved.Stmt.TheVariants as stmt
+use Rattle.source_resolver.specs.declared.resolved.Target.{Target}
+use Rattle.source_resolver.specs.declared.resolved.HandlerOf.{HandlerOf}
 use Rattle.pan_runner.specs.declared.waiting.Waiting.TheVariants as waiting
 use Rattle.pan_runner.proofs.Equations.{begins_skip}
 use Rattle.pan_runner.specs.declared.phase.Phase.{Phase}

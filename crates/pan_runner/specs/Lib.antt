@@ -1,9 +1,5 @@
-pub mod formers
-pub mod Numbering
-pub mod Resolving
 pub mod Told
 pub mod Stored
-pub mod Slots
 pub mod Evaluating
 pub mod Unbounded
 pub mod Machine

@@ -6,13 +6,13 @@ ghost use Rattle.pan_runner.specs.Halting.{Comes};
 
 use crate::halt::Halt;
 use crate::phase::{Ending, Phase};
-use crate::resolved::{Block, Handler};
 use crate::runner::Runner;
 use crate::value::Value;
 use crate::values::as_word;
 use crate::variables::{give, give_nothing, keep_first};
 use crate::waiting::Waiting;
 use pan_base::List;
+use source_resolver::{Block, Handler};
 
 /// Whether a handler catches an exception.
 fn catches(handler: &Handler, exception: usize) -> bool

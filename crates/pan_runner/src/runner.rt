@@ -1,7 +1,7 @@
 //! A runner of a program: it goes on over a stack of what waits, until it has no fuel, asks, or is over.
 
 ghost use Rattle.std.specs.Prelude.{◌≡◌, ◌∷◌, [], ℕ, List, length, IsTrue, IfOk, IfSome, IfNone, MatchOption};
-ghost use Rattle.pan_runner.specs.Slots.{Variables};
+ghost use Rattle.source_resolver.specs.Slots.{Variables};
 ghost use Rattle.pan_runner.specs.Machine.{or_fails, Runs, Enter};
 ghost use Rattle.pan_runner.specs.View.{is_sound, config_in};
 ghost use Rattle.pan_runner.specs.Halting.{Gives, Comes};
@@ -10,12 +10,11 @@ use crate::evaluating::{evaluate, evaluate_all, evaluate_word};
 use crate::halt::Halt;
 use crate::local_memory::LocalMemory;
 use crate::phase::{Ending, Phase};
-use crate::resolved::{Block, Expr, Program};
-use crate::resolving::resolve;
 use crate::value::Value;
 use crate::waiting::Waiting;
 use pan_base::{List, NoMemory};
 use pan_shapes::Checked;
+use source_resolver::{Block, Expr, Program, resolve};
 use std::alloc::Global;
 use std::mem;
 
@@ -47,7 +46,7 @@ pub struct Runner<'a> {
 impl<'a> Runner<'a> {
     ghost use Rattle.pan_tree.specs.Shapes.{zero_of};
     ghost use Rattle.pan_runner.specs.Told.{told, all_told};
-    ghost use Rattle.pan_runner.specs.Slots.{value, word, values};
+    ghost use Rattle.source_resolver.specs.Slots.{value, word, values};
     ghost use Rattle.pan_runner.specs.Machine as machine;
     ghost use Rattle.pan_runner.specs.View.{frame_of, stepped, is_running, is_spending, fed};
     ghost use Rattle.pan_runner.specs.declared.phase.Phase.TheVariants as phase;
@@ -65,8 +64,6 @@ impl<'a> Runner<'a> {
         ensures fed { IfOk result (λ r. (meaning_of r).starved ≡ false) }
     {
         let program = resolve(alloc, checked)?;
-        // the program's shapes are known with it
-        let _source = checked.program();
         let memory = LocalMemory::new(alloc, memory)?;
         let phase = first_phase(alloc, program.main);
         Ok(Runner {

@@ -5,19 +5,19 @@ ghost use Rattle.pan_runner.specs.Halting.{Comes};
 
 use crate::halt::Halt;
 use crate::phase::Phase;
-use crate::questions::{Question, is_shared, low_bytes};
-use crate::resolved::{Block, Call, Expr, Stmt};
+use crate::questions::{Question, is_shared};
 use crate::runner::Runner;
 use crate::variables::assign;
 use crate::waiting::{Waiting, copy_target, share_handler};
 use pan_base::{List, Size};
+use source_resolver::{Block, Call, Expr, Stmt};
 use std::mem;
 
 impl<'a> Runner<'a> {
     ghost use Rattle.pan_runner.specs.Machine.{ask_foreign};
     ghost use Rattle.pan_runner.specs.declared.phase.Phase.TheVariants as phase;
     ghost use Rattle.pan_runner.specs.Runner.{config_of, variables_of, frames_of, names_of, begins, Keeps};
-    ghost use Rattle.pan_runner.specs.declared.resolved.Stmt.TheVariants as stmt;
+    ghost use Rattle.source_resolver.specs.declared.resolved.Stmt.TheVariants as stmt;
 
     /// Begins the statement at an index of a block.
     #[tactic(auto, using(crate::proofs::Equations::begin_rules))]
@@ -224,7 +224,7 @@ impl<'a> Runner<'a> {
         if !is_shared(size, addr) {
             return Err(Halt::Fails);
         }
-        let value = low_bytes(size, word);
+        let value = size.cut(word);
         self.phase = Phase::Asks(Question::Store { size, addr, value });
         Ok(())
     }

@@ -1,10 +1,18 @@
 use Rattle.std.proofs.Common.{sym, ap, ◌∙◌}
-use Rattle.pan_runner.specs.Slots.{values}
+use Rattle.source_resolver.specs.Slots.{values}
 use Rattle.pan_runner.specs.Runner.{variables_of}
 use Rattle.pan_runner.proofs.Begun.{given, called}
-use Rattle.pan_runner.proofs.Halts.{answered}
+use Rattle.pan_runner.proofs.Halts.{answered, halted, refused, follows}
 use Rattle.pan_runner.proofs.Equations.{begins_call}
 use Rattle.pan_runner.proofs.runner.Runner.call.Goals as goal
+
+pub returns-in_err-function-clause-config : goal.returns-in_err-function-clause-config
+returns-in_err-function-clause-config c =
+    halted _ _ _ _ _ _ c.from_residual.ensures.1 (begins_call c.args.self.now c.args.call.now) (refused _ _ c.in_err-function.ensures)
+
+pub returns-in_err-args-clause-config : goal.returns-in_err-args-clause-config
+returns-in_err-args-clause-config c =
+    halted _ _ _ _ _ _ c.from_residual-in_err-args.ensures.1 (begins_call c.args.self.now c.args.call.now ∙ given _ _ _ (answered _ _ _ c.in_ok-function.ensures)) (follows _ _ _ (λ none. ap (λ es. values es (variables_of c.args.self.now) c.args.self.now.memory) (sym c.as_slice.ensures) ∙ none) c.in_err-args.ensures)
 
 pub returns-clause-config : goal.returns-clause-config
 returns-clause-config c =

@@ -1,7 +1,12 @@
 use Rattle.std.proofs.Common.{sym, ◌∙◌}
 use Rattle.pan_runner.proofs.Begun.{given, opened, if_some, if_none}
+use Rattle.pan_runner.proofs.Halts.{halted}
 use Rattle.pan_runner.proofs.Equations.{begins_if}
 use Rattle.pan_runner.proofs.runner.Runner.choose.Goals as goal
+
+pub returns-in_err-word-clause-config : goal.returns-in_err-word-clause-config
+returns-in_err-word-clause-config c =
+    halted _ _ _ _ _ _ c.from_residual.ensures.1 (begins_if c.args.self.now c.args.e.now c.args.first.now c.args.second.now) c.in_err-word.ensures
 
 pub returns-in_ok-open-clause-config : goal.returns-in_ok-open-clause-config
 returns-in_ok-open-clause-config c =
