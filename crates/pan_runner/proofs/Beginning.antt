@@ -1,5 +1,5 @@
 -- What a runner comes to at its beginning.
-use Rattle.std.proofs.Common.{◌≡◌, ℕ, List, [], Option, Some, None, refl, ap, ◌∙◌}
+use Rattle.std.proofs.Common.{◌≡◌, ℕ, List, [], Option, Some, None, ap, ◌∙◌}
 use Rattle.std.specs.Prelude.{IsSome}
 use Rattle.pan_base.specs.Events.{Replied}
 use Rattle.pan_tree.specs.declared.program.Program.{Program as Source}

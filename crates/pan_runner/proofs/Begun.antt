@@ -1,6 +1,6 @@
 -- What the first step of a statement comes to, from what its expressions gave.
 use Rattle.std.proofs.Common.{◌≡◌, ℕ, zero, suc, ◌++◌, List, [], ◌∷◌, length, Option, Some, None, Bool, true, false, refl, sym, ap, ◌∙◌}
-use Rattle.std.specs.Prelude.{option_map, unwrap_or, slice_get}
+use Rattle.std.specs.Prelude.{unwrap_or, slice_get}
 use Rattle.std.proofs.lemmas.List.{map-append}
 use Rattle.pan_base.specs.Events.{Fails}
 use Rattle.pan_runner.specs.Told.{told, all_told}

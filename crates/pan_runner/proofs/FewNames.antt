@@ -16,7 +16,7 @@ use Rattle.pan_tree.specs.declared.syntax.StmtKind.{StmtKind, StmtKind-F, fold-r
 use Rattle.pan_tree.specs.declared.syntax.StmtKind.TheOpen as open_stmt
 use Rattle.pan_tree.specs.declared.program.Function.{Function}
 use Rattle.pan_tree.specs.declared.program.Program.{Program}
-use Rattle.pan_tree.specs.Check.{Scope, Context, State, Doing, Break, broken, doing, do_kind, do_layer, in_order, block, body, bodies, names_after, parameters, exception_heads, function_heads, function_of, main_breaks, weight_breaks, with_name, is_too_many, breaks_of, judged, has_no_word, closes, foreign_names, IsWellShaped}
+use Rattle.pan_tree.specs.Check.{Scope, Context, State, Doing, broken, doing, do_kind, do_layer, in_order, block, body, bodies, names_after, parameters, exception_heads, function_heads, function_of, main_breaks, weight_breaks, with_name, is_too_many, breaks_of, judged, has_no_word, closes, foreign_names, IsWellShaped}
 use Rattle.pan_runner.specs.View.{is_one_line}
 use Rattle.pan_runner.specs.Runner.{names_in}
 use Rattle.source_resolver.proofs.Mains.{no_front, no_back}

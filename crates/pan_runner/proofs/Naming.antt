@@ -27,18 +27,6 @@ unnamed r i conf conf_len array array_len count is past =
     ap (λ ns. slice_get ns i) (names_are r.checked.now) ∙ slice_get_past (foreign_names r.checked.now) i (omega (arith, is, past)) in
     ap (λ o. or_fails o (λ name. or_fails (bytes_at r.memory conf conf_len) (λ c. or_fails (bytes_at r.memory array array_len) (λ a. Waits (Calling i name c array a) (variables_of r) (frames_of r) r.memory)))) none
 
--- whatever it goes on with fails
-always : {A : Type 0} (o : Option A) (next : A → Config) → ((a : A) → next a ≡ Over Fails) → or_fails o next ≡ Over Fails
-always None next fails = refl
-always (Some a) next fails = fails a
-
-pub conf_missing : (r : Runner) (i conf conf_len array array_len : ℕ) → bytes_at r.memory conf conf_len ≡ None → ask_foreign (names_of r) i conf conf_len array array_len (variables_of r) (frames_of r) r.memory ≡ Over Fails
-conf_missing r i conf conf_len array array_len none = always (slice_get (names_of r) i) _ (λ name. ap (λ o. or_fails o (λ c. or_fails (bytes_at r.memory array array_len) (λ a. Waits (Calling i name c array a) (variables_of r) (frames_of r) r.memory))) none)
-
-pub array_missing : (r : Runner) (i conf conf_len array array_len : ℕ) → bytes_at r.memory array array_len ≡ None → ask_foreign (names_of r) i conf conf_len array array_len (variables_of r) (frames_of r) r.memory ≡ Over Fails
-array_missing r i conf conf_len array array_len none =
-    always (slice_get (names_of r) i) _ (λ name. always (bytes_at r.memory conf conf_len) _ (λ c. ap (λ o. or_fails o (λ a. Waits (Calling i name c array a) (variables_of r) (frames_of r) r.memory)) none))
-
 -- the number of a name takes 32 bits
 pub few_fits : (p : Source) → IsWellShaped p → (i count : ℕ) → count ≡ length (foreign_names p) → i < count → Fits w32 i
 few_fits p shaped i count is below = let few : i < 1024 = omega (arith, few_names p shaped, is, below) in grind (arith, few)

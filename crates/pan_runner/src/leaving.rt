@@ -109,9 +109,7 @@ impl<'a> Runner<'a> {
     {
         match self.pop() {
             None => Err(Halt::Fails),
-            Some(Waiting::Block { block, next, keep }) => {
-                self.go_on(&block, next, keep)
-            }
+            Some(Waiting::Block { block, next, keep }) => { self.go_on(&block, next, keep) }
             Some(Waiting::Loop { block, at }) => self.go_round(&block, at),
             Some(Waiting::Called { .. }) => Err(Halt::Fails),
         }

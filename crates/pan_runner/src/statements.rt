@@ -21,12 +21,7 @@ impl<'a> Runner<'a> {
 
     /// Begins the statement at an index of a block.
     #[tactic(auto, using(crate::proofs::Equations::begin_rules))]
-    pub(crate) fn begin(
-        &mut self,
-        statement: &Stmt,
-        block: &Block,
-        at: usize,
-    ) -> Result<(), Halt>
+    pub(crate) fn begin(&mut self, statement: &Stmt, block: &Block, at: usize) -> Result<(), Halt>
         requires phase { self.old.phase ≡ phase.Next }
         requires place { slice_get block.now at ≡ Some statement.now }
         ensures config { Comes result (config_of self.new) (begins self.old statement.now) }

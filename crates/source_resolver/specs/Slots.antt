@@ -6,7 +6,7 @@ use Rattle.pan_base.specs.declared.operators.BinOp.{BinOp}
 use Rattle.pan_base.specs.Words.{operate, negate, truth}
 use Rattle.pan_base.specs.Events.{Load, Store, Replied, Behaviour, byte_count}
 use Rattle.pan_control.specs.Memory.{is_shared, byte_at, with_byte, words_at, with_words}
-use Rattle.pan_control.specs.Control.{Normal, Broken, Continued, Returned, Raised, Over, in_turn, with_value, where_true, if_not_zero, ask, turns, call, tail_call, left, on_variables}
+use Rattle.pan_control.specs.Control.{Normal, Broken, Continued, Returned, Raised, in_turn, with_value, where_true, if_not_zero, ask, turns, call, tail_call, left, on_variables}
 use Rattle.pan_control.specs.Runs as runs
 use Rattle.pan_control.specs.Runs.{number, nested}
 use Rattle.pan_tree.specs.Running.{World, Outcome, Meaning, Callee}

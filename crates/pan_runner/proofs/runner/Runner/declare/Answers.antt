@@ -17,4 +17,3 @@ returns-clause-config c =
     at_next _ _ _ _ c.requires
     ∙ ap (λ u. Runs (Leave (Next u)) (frames_of r) r.memory) (ap all_told c.in_ok-push.ensures.ok ∙ told_more r.variables c.in_ok-value.value)
     ∙ sym (begins_declare r c.args.e.now ∙ given _ _ _ c.in_ok-value.ensures)
-
