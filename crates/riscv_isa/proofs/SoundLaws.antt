@@ -27,7 +27,8 @@ use Rattle.riscv_isa.specs.Running.{Leads}
 use Rattle.riscv_isa.specs.Sound.{IsSound, IsFixed, GoesOnIn}
 use Rattle.riscv_isa.specs.Step.{State, Config, Runs, Waits, Over, reg, with_reg, next, linked, load, store, foreign, ended, act, act_some, decoded_some, fetched, step, request_of, resumed, loaded, replaced}
 use Rattle.riscv_isa.specs.Image.{ImageParts, IsLawfulImage}
-use Rattle.riscv_isa.specs.Machine.{booted, IsLawfulMemory, IsLawfulStack}
+use Rattle.pan_base.specs.Lawful.{IsLawfulMemory, IsLawfulStack}
+use Rattle.riscv_isa.specs.Machine.{booted}
 use Rattle.riscv_isa.specs.Table.{InRange}
 use Rattle.riscv_isa.proofs.Fixed.{act_fixes, AreBytesFor}
 use Rattle.riscv_isa.proofs.Memories.{everywhere, stay_apart, all_bytes}
