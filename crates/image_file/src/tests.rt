@@ -50,13 +50,15 @@ fn written(rt: HostRuntime) -> Result<(), Fail> {
         bytes: Blob::from_slice(rt.alloc(), &[0x73, 0, 0, 0])?,
         layout: List::new(rt.alloc()),
     };
-    let mut names = Names {
+    let names = Names {
         list: List::new(rt.alloc()),
     };
     let image = write_image(rt.alloc(), &code, &names, None)?;
     assert_eq!(rt; image.as_slice(), SMALL.as_slice());
 
-    names.list.push(Blob::from_slice(rt.alloc(), b"swap")?)?;
+    let mut list = List::new(rt.alloc());
+    list.push(Blob::from_slice(rt.alloc(), b"swap")?)?;
+    let names = Names { list };
     let image = read_written(rt.alloc(), &code, &names, Some(1 << 40))?;
     assert_eq!(rt; image.bound(), Some(1 << 40));
     Ok(())

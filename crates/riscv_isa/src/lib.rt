@@ -15,7 +15,6 @@ mod known_words;
 mod laws;
 mod pending;
 mod place;
-mod spelled;
 mod words;
 
 pub use code::{Code, Names};
@@ -23,10 +22,9 @@ pub use decoding::decode;
 pub use encoding::encode;
 pub use instr::Instr;
 pub use laws::{
-    accesses_find_regions, code_holds_instructions, decoded_is_the_table, machine_goes_on,
-    read_written, registers_hold, runs_go_on, states_stay_sound, ways_reach, write_read,
+    accesses_find_regions, decoded_is_the_table, machine_goes_on, read_written, registers_hold,
+    runs_go_on, states_stay_sound, ways_reach, write_read,
 };
 pub use pending::{Buffer, Pending};
 pub use place::{Place, Region};
-pub use spelled::spelled_code;
 pub use words::spell;

@@ -11,7 +11,7 @@ use crate::layout::image_of;
 use pan_agree::both_ways;
 use pan_base::{Blob, NoMemory};
 use pan_tree::{Program, source_meets_no_limit};
-use riscv_isa::{machine_goes_on, spell, spelled_code};
+use riscv_isa::{code_holds_instructions, machine_goes_on, spell};
 use std::alloc::Global;
 
 /// The image of a straight-line program that breaks no rule, with no bound. `NoMemory` is the one error.
@@ -23,7 +23,7 @@ pub fn compile(alloc: Global, program: &Program) -> Result<Blob, NoMemory>
     machine_goes_on();
     source_meets_no_limit();
     both_ways();
-    spelled_code();
+    code_holds_instructions();
     let main = &program.functions.as_slice()[0];
     let instrs = generate(alloc, main.body.stmts.as_slice())?;
     let code = spell(alloc, instrs.as_slice())?;

@@ -11,8 +11,8 @@ use crate::evaluating::evaluate;
 use pan_base::{List, NoMemory, SOp};
 use pan_tree::{Expr, Stmt, StmtKind, statements_mean_by_parts};
 use riscv_isa::Instr;
-use straight_form::parts_are_known;
 use std::alloc::Global;
+use straight_form::parts_are_known;
 
 /// t0, with the address of a store.
 const ADDRESS: u8 = 5;

@@ -20,8 +20,8 @@ pub image_of-requires : goal.image_of-requires
 image_of-requires c =
     let main = main_is c.args.program.now c.requires.form c.as_slice.result.now c.index-as_slice-0.result c.as_slice-2.result.now c.as_slice.ensures c.index-as_slice-0.is c.as_slice-2.ensures in
     let spelled = subst (Spells c.in_ok-code.code.items) c.as_slice-3.ensures c.in_ok-code.ensures in
-    let code = c.spelled_code.ensures in
-    lawful main c.requires.shaped c.in_ok-instrs.instrs c.in_ok-code.code.items c.in_ok-instrs.ensures.short (code.long _ _ spelled) (code.bytes _ _ spelled)
+    let code = c.code_holds_instructions.ensures in
+    lawful main c.requires.shaped c.in_ok-instrs.instrs c.in_ok-code.code.items c.in_ok-instrs.ensures.short (code.length _ _ spelled) (code.bytes _ _ spelled)
 
 pub returns : goal.returns
 returns c =
@@ -31,7 +31,7 @@ returns c =
       steady = c.machine_goes_on.ensures;
       like = c.source_meets_no_limit.ensures;
       agree = c.both_ways.ensures.agree;
-      held = c.spelled_code.ensures.held;
-      acted = c.spelled_code.ensures.acted;
+      held = c.code_holds_instructions.ensures.spelled;
+      acted = c.code_holds_instructions.ensures.step;
     } in
     (alone c.in_ok-code.code.items, compiled facts main c.in_ok-instrs.instrs c.in_ok-code.code.items c.in_ok-image.image c.in_ok-instrs.ensures.performs spelled c.in_ok-image.ensures, refl)
