@@ -55,5 +55,8 @@ image_there bytes fits none =
     let r = are_read (names_bytes bytes) (header_of bytes).name_count q.1 in
     (record { code = code_bytes bytes; names = r.names; bound = bound_in (header_of bytes).bound }, is_image bytes r.names r.left fits q.0 r.at r.lawful p.1)
 
-pub faultless : (bytes : List ℕ) → IsBytes bytes → (fault_of bytes ≡ None) ↔ ((parts : ImageParts) × ImageOf bytes parts)
-faultless bytes fits = (image_there bytes fits, λ h. (image_reads bytes h.0 h.1).right)
+pub faultless : (bytes : List ℕ) (parts : ImageParts) → ImageOf bytes parts → fault_of bytes ≡ None
+faultless bytes parts image = (image_reads bytes parts image).right
+
+pub exact : (bytes : List ℕ) → IsBytes bytes → (fault_of bytes ≡ None) ↔ ((parts : ImageParts) × ImageOf bytes parts)
+exact bytes fits = (image_there bytes fits, λ h. faultless bytes h.0 h.1)

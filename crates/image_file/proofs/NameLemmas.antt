@@ -43,7 +43,7 @@ part_is_short (name ∷ names) h =
     let first : length name ≤ 64 = h.0 in
     let rest = part_is_short names h.1 in
     let part : length (names_part (name ∷ names)) ≡ 2 + length name + length (names_part names) =
-        length-append (to_le_bytes w16 (length name) ++ name) (names_part names) ∙ ap (λ n. n + length (names_part names)) (length-append (to_le_bytes w16 (length name)) name) in
+    length-append (to_le_bytes w16 (length name) ++ name) (names_part names) ∙ ap (λ n. n + length (names_part names)) (length-append (to_le_bytes w16 (length name)) name) in
     omega arith
 
 pub lawful_image : (code : List ℕ) (names : List (List ℕ)) (bound : Option ℕ) → IsLawfulCode code → AreLawfulNames names → ForSome bound (λ n. n < 2 ^ 64 - 1)

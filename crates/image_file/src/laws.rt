@@ -17,7 +17,8 @@ use std::alloc::Global;
 /// Bytes are the image of the same parts always, and are an image exactly where nothing is wrong with them. It does nothing.
 pub fn one_image()
     ensures same { (bytes : List ℕ) (parts others : ImageParts) → ImageOf bytes parts → ImageOf bytes others → parts ≡ others }
-    ensures faultless { (bytes : List ℕ) → IsBytes bytes → (fault_of bytes ≡ None) ↔ ((parts : ImageParts) × ImageOf bytes parts) }
+    ensures faultless { (bytes : List ℕ) (parts : ImageParts) → ImageOf bytes parts → fault_of bytes ≡ None }
+    ensures exact { (bytes : List ℕ) → IsBytes bytes → (fault_of bytes ≡ None) ↔ ((parts : ImageParts) × ImageOf bytes parts) }
 {}
 
 /// What is written is read as what it is.

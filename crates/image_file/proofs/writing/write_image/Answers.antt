@@ -1,5 +1,5 @@
-use Rattle.std.proofs.Common.{rules, ◌≡◌, ◌≤◌, length}
-use Rattle.riscv_isa.specs.Image.{IsLawfulImage, names_part}
+use Rattle.std.proofs.Common.{rules}
+use Rattle.riscv_isa.specs.Image.{IsLawfulImage}
 use Rattle.image_file.specs.Parts.{parts_of}
 use Rattle.image_file.proofs.NameLemmas.{names_are_short, lawful_image}
 use Rattle.image_file.proofs.writing.write_image.Goals as goal
