@@ -11,7 +11,7 @@ use Rattle.pan_runner.specs.declared.halt.Halt.TheVariants as halt
 -- ---- errors
 
 -- a fact that follows from another
-follows : (h : Halt) (fact other : Type 0) → (fact → other) → OnFails h fact → OnFails h other
+pub follows : (h : Halt) (fact other : Type 0) → (fact → other) → OnFails h fact → OnFails h other
 follows halt.Fails fact other f holds = f holds
 follows halt.NoMemory fact other f holds = tt
 

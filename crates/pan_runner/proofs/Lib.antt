@@ -6,6 +6,7 @@ pub mod EvenLayers
 pub mod FewNames
 pub mod FillLemmas
 pub mod FramesLemmas
+pub mod Gives
 pub mod GivingLayers
 pub mod Halts
 pub mod Later

@@ -82,39 +82,36 @@ impl<'a> Runner<'a> {
     pub(crate) fn value_of(&self, expr: &Expr) -> Result<Value, Halt>
         ensures { Gives told result (value expr.now (variables_of self.now) self.now.memory) }
     {
-        let given = evaluate(
+        evaluate(
             self.alloc,
             expr,
             self.variables.as_slice(),
             self.memory.as_slice(),
-        )?;
-        given.ok_or(Halt::Fails)
+        )
     }
 
     /// The word that an expression gives here.
     pub(crate) fn word_of(&self, expr: &Expr) -> Result<u64, Halt>
         ensures { Gives (λ n. n) result (word expr.now (variables_of self.now) self.now.memory) }
     {
-        let given = evaluate_word(
+        evaluate_word(
             self.alloc,
             expr,
             self.variables.as_slice(),
             self.memory.as_slice(),
-        )?;
-        given.ok_or(Halt::Fails)
+        )
     }
 
     /// What expressions give here.
     pub(crate) fn values_of(&self, exprs: &[Expr]) -> Result<List<Value>, Halt>
         ensures { Gives all_told result (values exprs.now (variables_of self.now) self.now.memory) }
     {
-        let given = evaluate_all(
+        evaluate_all(
             self.alloc,
             exprs,
             self.variables.as_slice(),
             self.memory.as_slice(),
-        )?;
-        given.ok_or(Halt::Fails)
+        )
     }
 
     /// Puts a frame on the stack.
