@@ -48,10 +48,13 @@ fn bits_of(size: Size) -> &'static [u8]
     }
 }
 
+/// How many bytes of a line are put at once.
+const ROOM: usize = 4096;
+
 /// The end of a line that isn't put yet.
 #[derive(Drop)]
 struct Line {
-    bytes: [u8; 4096],
+    bytes: [u8; ROOM],
     count: usize,
 }
 
@@ -71,7 +74,7 @@ impl Line {
         ensures { result ≡ [] }
     {
         Line {
-            bytes: [0; 4096],
+            bytes: [0; ROOM],
             count: 0,
         }
     }
@@ -92,12 +95,12 @@ impl Line {
         ensures took { Passes (O.state out.old) (O.state out.new) result self.old self.new text.now }
         ensures cause { HasCause (O.state out.old).faults (O.state out.new).faults result }
     {
-        if text.len() <= 4096 - self.count {
+        if text.len() <= ROOM - self.count {
             self.hold(text);
             return Ok(());
         }
         self.put(out)?;
-        if text.len() <= 4096 {
+        if text.len() <= ROOM {
             self.hold(text);
             Ok(())
         } else {
