@@ -1,7 +1,6 @@
 //! One step.
 
 ghost use Rattle.std.specs.Prelude.{◌≡◌, ◌+◌, ◌<◌, ◌^◌, IfSome};
-ghost use Rattle.riscv_isa.specs.Decoded.{decoded};
 ghost use Rattle.riscv_isa.specs.Table.{InRange};
 ghost use Rattle.riscv_machine.specs.View.{IsUnrefused, IsKeptAtEnd};
 
@@ -9,14 +8,6 @@ use crate::machine::{Machine, MachineEnd, Phase};
 use crate::memory::read_word;
 use crate::results::{i_result, plus, r_result, sh_result, stores, u_result};
 use riscv_isa::{Instr, decode};
-
-/// The instruction of a word.
-fn instruction_of(word: u32) -> Option<Instr>
-    ensures value { result ≡ decoded word }
-    ensures range { IfSome result InRange }
-{
-    decode(word)
-}
 
 impl Machine {
     ghost use Rattle.riscv_isa.specs.Step.{fetched, decoded_some, act, step};
@@ -45,7 +36,7 @@ impl Machine {
         ensures pc { IfSome result (λ _. self.now.pc + 4 < 2 ^ 64) }
     {
         match self.fetch() {
-            Some(word) => instruction_of(word),
+            Some(word) => decode(word),
             None => None,
         }
     }
