@@ -10,8 +10,8 @@ use std::alloc::Global;
 use std::process::Abort;
 use std::test::Fail;
 
-/// Bytes of local memory.
-const LOCAL: usize = 64;
+/// Local memory.
+const MEMORY: [u8; 8] = [0, 0, 0, 0, 0, 0, 0, 0];
 
 const CALLER: &str = "exception E 2;
     fun f(2 p) { @print(p.0, 1, 2, 3); raise E p; }
@@ -50,8 +50,8 @@ fn stops_at_the_store<A: Asker, D: Device>(
     end: End,
 ) -> Result<(), Fail> {
     let mut out = MemSink::new(alloc, 100, List::new(alloc))?;
-    let mut room = [0; LOCAL];
-    assert!(rt; asker.local_size() <= LOCAL);
+    let mut room = MEMORY;
+    assert!(rt; asker.local_size() <= room.len());
     assert_eq!(rt; drive(asker, device, &mut out, &mut room, 1000)?, end);
     assert!(rt; out.bytes().is_empty());
     Ok(())
@@ -75,11 +75,11 @@ fn asks_before_it_fails(rt: HostRuntime) -> Result<(), Fail> {
     let alloc = rt.alloc();
     let mut none = ReplyList::new(List::new(alloc));
     let program = read_program(alloc, STORES.as_bytes())?;
-    let mut runner = Runner::new(alloc, &program, &[0; LOCAL])?;
+    let mut runner = Runner::new(alloc, &program, &MEMORY)?;
     stops_at_the_store(&rt, alloc, &mut runner, &mut none, End::Asks)?;
     assert!(rt; is_store(runner.request()));
     let image = read_image(alloc, &STORES_IMAGE)?;
-    let mut machine = Machine::boot(alloc, image, &[0; LOCAL], 16)?;
+    let mut machine = Machine::boot(alloc, image, &MEMORY, 16)?;
     stops_at_the_store(&rt, alloc, &mut machine, &mut none, End::Asks)?;
     assert!(rt; is_store(machine.request()));
     Ok(())
@@ -92,7 +92,7 @@ fn stops_after_none(rt: HostRuntime) -> Result<(), Fail> {
     replies.push(OwnReply::Done)?;
     let mut device = StopAfter::new(ReplyList::new(replies), 0);
     let program = read_program(alloc, STORES.as_bytes())?;
-    let mut runner = Runner::new(alloc, &program, &[0; LOCAL])?;
+    let mut runner = Runner::new(alloc, &program, &MEMORY)?;
     stops_at_the_store(&rt, alloc, &mut runner, &mut device, End::Stopped)?;
     Ok(())
 }
