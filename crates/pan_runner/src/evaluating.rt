@@ -185,10 +185,7 @@ pub fn evaluate_word(
             let addr = evaluate_word(alloc, addr.get(), variables, memory)?;
             load_byte(memory, addr).ok_or(Halt::Fails)
         }
-        Expr::Neg(of) => {
-            let word = evaluate_word(alloc, of.get(), variables, memory)?;
-            Ok(negated(word))
-        }
+        Expr::Neg(of) => Ok(negated(evaluate_word(alloc, of.get(), variables, memory)?)),
         Expr::Chain(first, rest) => {
             let first = evaluate_word(alloc, first.get(), variables, memory)?;
             evaluate_chain(alloc, first, rest.as_slice(), variables, memory)

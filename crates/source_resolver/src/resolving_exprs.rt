@@ -26,11 +26,10 @@ pub fn resolve_expr(alloc: Global, expr: &SourceExpr, places: &Places<'_>) -> Re
         ExprKind::Var(name) => Ok(Expr::Variable(places.place(name.as_bytes()))),
         ExprKind::Base => Ok(Expr::Number(BASE_ADDRESS)),
         ExprKind::Biw => Ok(Expr::Number(BYTES_IN_WORD)),
-        ExprKind::Struct(parts) => Ok(Expr::Struct(resolve_parts(
-            alloc,
-            parts.as_slice(),
-            places,
-        )?)),
+        ExprKind::Struct(parts) => {
+            let parts = resolve_parts(alloc, parts.as_slice(), places)?;
+            Ok(Expr::Struct(parts))
+        }
         ExprKind::Field(of, path) => {
             let of = resolve_boxed(alloc, of.get(), places)?;
             Ok(Expr::Field(of, List::from_slice(alloc, path.as_slice())?))
@@ -39,11 +38,7 @@ pub fn resolve_expr(alloc: Global, expr: &SourceExpr, places: &Places<'_>) -> Re
             let shape = copy_shape(alloc, shape)?;
             Ok(Expr::Load(shape, resolve_boxed(alloc, address.get(), places)?))
         }
-        ExprKind::LoadByte(address) => Ok(Expr::LoadByte(resolve_boxed(
-            alloc,
-            address.get(),
-            places,
-        )?)),
+        ExprKind::LoadByte(at) => Ok(Expr::LoadByte(resolve_boxed(alloc, at.get(), places)?)),
         ExprKind::Neg(of) => Ok(Expr::Neg(resolve_boxed(alloc, of.get(), places)?)),
         ExprKind::Chain(first, rest) => {
             let first = resolve_boxed(alloc, first.get(), places)?;

@@ -157,21 +157,21 @@ evaluate_word-returns-in_ok-addr-in-LoadByte t c =
     let is = load_byte_word u m c.args.expr.now c.get-in-LoadByte.result.now (cc) in
     word_or _ _ _ c.ok_or-in-LoadByte.ensures.value (is ∙ ap (option_and_then (byte_at m)) c.in_ok-addr-in-LoadByte.ensures ∙ sym c.load_byte.ensures)
 
-pub evaluate_word-returns-in_err-word-in-Neg : goal.evaluate_word-returns-in_err-word-in-Neg
-evaluate_word-returns-in_err-word-in-Neg t c =
+pub evaluate_word-returns-in_err-evaluate_word-in-Neg : goal.evaluate_word-returns-in_err-evaluate_word-in-Neg
+evaluate_word-returns-in_err-evaluate_word-in-Neg t c =
     let u = all_told c.args.variables.now in
     let m = c.args.memory.now in
     let here = c.in-Neg.is in
     let is = neg_word u m c.args.expr.now c.get-in-Neg.result.now (cc) in
-    lacks _ _ _ (option_map negate) _ _ c.from_residual-in_err-word-in-Neg.ensures.1 c.in_err-word-in-Neg.ensures is refl
+    lacks _ _ _ (option_map negate) _ _ c.from_residual-in_err-evaluate_word-in-Neg.ensures.1 c.in_err-evaluate_word-in-Neg.ensures is refl
 
-pub evaluate_word-returns-in_ok-word-in-Neg : goal.evaluate_word-returns-in_ok-word-in-Neg
-evaluate_word-returns-in_ok-word-in-Neg t c =
+pub evaluate_word-returns-in_ok-evaluate_word-in-Neg : goal.evaluate_word-returns-in_ok-evaluate_word-in-Neg
+evaluate_word-returns-in_ok-evaluate_word-in-Neg t c =
     let u = all_told c.args.variables.now in
     let m = c.args.memory.now in
     let here = c.in-Neg.is in
     let is = neg_word u m c.args.expr.now c.get-in-Neg.result.now (cc) in
-    is ∙ ap (option_map negate) c.in_ok-word-in-Neg.ensures ∙ ap Some (sym c.negated.ensures)
+    is ∙ ap (option_map negate) c.in_ok-evaluate_word-in-Neg.ensures ∙ ap Some (sym c.negated.ensures)
 
 pub evaluate_word-returns-in_err-first-in-Chain : goal.evaluate_word-returns-in_err-first-in-Chain
 evaluate_word-returns-in_err-first-in-Chain t c =
