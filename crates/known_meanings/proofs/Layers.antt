@@ -1,9 +1,8 @@
 -- The equations of the meaning and of the weights, at the variants of the known programs.
 use Rattle.std.proofs.Common.{◌≡◌, ℕ, List, ◌∷◌, sym, ap, ◌∙◌}
 use Rattle.pan_base.specs.declared.operators.BinOp.{BinOp}
-use Rattle.pan_control.specs.Control.{Callee}
+use Rattle.pan_tree.specs.Running.{World, Callee}
 use Rattle.pan_tree.specs.Value.{Value}
-use Rattle.pan_control.specs.World.{World}
 use Rattle.pan_tree.specs.Check as check
 use Rattle.pan_tree.specs.Check.{Context, State, Judging, judge_layer, judge_kind, Doing, do_layer, do_kind}
 use Rattle.pan_tree.specs.Meaning.{Scopes, Giving, value_layer, value_kind, Does, run_layer, run_kind}

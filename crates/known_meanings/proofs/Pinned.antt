@@ -4,8 +4,8 @@ use Rattle.std.specs.Prelude.{max}
 use Rattle.pan_base.specs.declared.operators.BinOp.TheVariants.{Add, Mul}
 use Rattle.pan_base.specs.Words.{operate}
 use Rattle.pan_base.specs.Events.{Event, Replied, only, Exit}
-use Rattle.pan_control.specs.World.{World}
-use Rattle.pan_control.specs.Control.{Outcome, Normal, Returned, Raised, Callee}
+use Rattle.pan_control.specs.Control.{Normal, Returned, Raised}
+use Rattle.pan_tree.specs.Running.{World, Outcome, Callee}
 use Rattle.pan_control.specs.Seen.{Seen}
 use Rattle.std.specs.Prelude.{codes}
 use Rattle.pan_tree.specs.Check.{cost}
@@ -13,9 +13,9 @@ use Rattle.pan_tree.specs.Scopes.{declare}
 use Rattle.pan_tree.specs.Shapes.{words_of, shape_in, zero_of}
 use Rattle.pan_tree.specs.declared.shape.Shape.TheVariants as shape
 use Rattle.pan_tree.specs.Value.{Value, Word}
-use Rattle.pan_tree.specs.Meaning.{source, calls, body_of, run_kind, seen, start}
+use Rattle.pan_tree.specs.Meaning.{Scopes, source, calls, body_of, run_kind, seen, start}
 use Rattle.pan_tree.proofs.ShapeLayers.{words_rules, words_word}
-use Rattle.known_meanings.specs.Programs.{diamond, d_of_diamond, b_of_diamond, c_of_diamond, p_is_b, q_is_c, main_of_diamond, tail_call, caught, f_of_caught, main_of_caught}
+use Rattle.known_meanings.specs.Programs.{diamond, d_of_diamond, b_of_diamond, r_is_b, r_is_d, c_of_diamond, p_is_b, q_is_c, main_of_diamond, tail_call, caught, f_of_caught, main_of_caught}
 use Rattle.known_meanings.proofs.Layers.{value_rules, weight_rules, run_rules, run_return, value_var, judge_var, filling_word}
 
 pub tail_call_is : source tail_call [] [] 1 ≡ record { behaviour = only (Exit 4); deepest = 320; toll = 28 }
@@ -24,7 +24,7 @@ tail_call_is = simp (run_rules, value_rules, weight_rules, words_rules)
 -- ---- the diamond, a function at a time
 
 abbrev at : List ℕ → List Replied → List Event → ℕ → ℕ → ℕ → ℕ → ℕ → World
-at m r t n a o e l = record { memory = m; replies = r; trace = t; fuel = n; active = a; own = o; deepest = e; toll = l }
+at m r t n a o e l = record { memory = m; globals = tt; replies = r; trace = t; fuel = n; active = a; own = o; deepest = e; toll = l }
 
 -- what d returns of x, and leaves
 abbrev d_leaves : ℕ → World → Outcome (Unit {0}) Value
@@ -63,9 +63,26 @@ c_leaves x n w =
 abbrev RunsC : Callee (List Value) Value → Type 0
 RunsC callee = (x : ℕ) (m : List ℕ) (r : List Replied) (t : List Event) (n a o e l : ℕ) → callee 2 (Word x ∷ []) (at m r t (suc (suc (suc n))) a o e l) ≡ c_leaves x n (at m r t n a o e l)
 
+abbrev x_alone : ℕ → Scopes
+x_alone x = declare (codes "x") (Word x) ([] ∷ [])
+
+b_called : (d : ℕ) (callee : Callee (List Value) Value) → RunsB callee → (x : ℕ) (m : List ℕ) (r : List Replied) (t : List Event) (n a o e l : ℕ)
+    → run_kind diamond d callee r_is_b.kind (x_alone x) (at m r t (suc (suc n)) a o e l)
+    ≡ Normal (declare (codes "r") (Word (operate Mul (operate Add x 1) 2)) (x_alone x)) (at m r t n a o (max (max e (a + 448)) (a + 448 + 320)) (l + 8 + 6 + 8 + 6 + 10 + 10))
+b_called d callee runs_b x m r t n a o e l = simp (run_rules, value_rules, runs_b, weight_rules, words_rules)
+
+d_called : (d : ℕ) (callee : Callee (List Value) Value) → RunsD callee → (x y : ℕ) (m : List ℕ) (r : List Replied) (t : List Event) (n a o e l : ℕ)
+    → run_kind diamond d callee r_is_d.kind (declare (codes "r") (Word y) (x_alone x)) (at m r t (suc n) a o e l)
+    ≡ Normal (declare (codes "r") (Word (operate Add y 1)) (x_alone x)) (at m r t n a o (max e (a + 320)) (l + 8 + 6 + 10))
+d_called d callee runs_d x y m r t n a o e l = simp (run_rules, value_rules, runs_d, weight_rules, words_rules)
+
+c_costs : cost diamond c_of_diamond ≡ 512
+c_costs = simp (weight_rules, words_rules)
+
 c_body : (d : ℕ) (callee : Callee (List Value) Value) → RunsD callee → RunsB callee → (x : ℕ) (m : List ℕ) (r : List Replied) (t : List Event) (n a o e l : ℕ)
     → body_of diamond d callee c_of_diamond (Word x ∷ []) (at m r t (suc (suc (suc n))) a o e l) ≡ c_leaves x n (at m r t n a o e l)
-c_body d callee runs_d runs_b x m r t n a o e l = simp (run_rules, value_rules, runs_d, runs_b, weight_rules, words_rules)
+c_body d callee runs_d runs_b x m r t n a o e l =
+    rw (c_costs, words_word, b_called d callee runs_b, d_called d callee runs_d, run_return, value_var, judge_var, words_word)
 
 first_call : (d : ℕ) (callee : Callee (List Value) Value) → RunsB callee → (m : List ℕ) (r : List Replied) (t : List Event) (n a o e l : ℕ)
     → run_kind diamond d callee p_is_b.kind ([] ∷ []) (at m r t (suc (suc n)) a o e l)

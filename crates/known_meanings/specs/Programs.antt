@@ -50,12 +50,17 @@ abbrev pub b_of_diamond : Function
 b_of_diamond = function (codes "b") (codes "x" ∷ [])
     (calling (target.New (codes "r")) (codes "d") (var (codes "x") ∷ []) None ∷ returning (chained (var (codes "r")) Mul (number 2)) ∷ [])
 
+-- var r = b(x);
+abbrev pub r_is_b : Spanned StmtKind
+r_is_b = calling (target.New (codes "r")) (codes "b") (var (codes "x") ∷ []) None
+
+-- r = d(r);
+abbrev pub r_is_d : Spanned StmtKind
+r_is_d = calling (target.Old (codes "r")) (codes "d") (var (codes "r") ∷ []) None
+
 -- fun c(1 x) { var r = b(x); r = d(r); return r; }
 abbrev pub c_of_diamond : Function
-c_of_diamond = function (codes "c") (codes "x" ∷ [])
-    (calling (target.New (codes "r")) (codes "b") (var (codes "x") ∷ []) None
-    ∷ calling (target.Old (codes "r")) (codes "d") (var (codes "r") ∷ []) None
-    ∷ returning (var (codes "r")) ∷ [])
+c_of_diamond = function (codes "c") (codes "x" ∷ []) (r_is_b ∷ r_is_d ∷ returning (var (codes "r")) ∷ [])
 
 -- var p = b(3);
 abbrev pub p_is_b : Spanned StmtKind
