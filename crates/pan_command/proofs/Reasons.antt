@@ -9,7 +9,7 @@ use Rattle.front_end.specs.declared.error.SourceError.TheVariants as wrong
 use Rattle.front_end.proofs.Reasons.{no_error}
 use Rattle.straight_form.specs.Form.{IsStraight}
 use Rattle.pan_command.specs.Inner.{of_source}
-use Rattle.pan_command.specs.Served.{IsServed, IsUnsupported, Refuses}
+use Rattle.pan_command.specs.Served.{IsServed, IsUnsupported, IsRefusedFor}
 use Rattle.pan_command.specs.declared.error.BuildError.{BuildError}
 use Rattle.pan_command.specs.declared.error.BuildError.TheVariants.{Source, Unsupported, NoMemory}
 
@@ -18,7 +18,7 @@ abbrev pub Gives : {A E : Type 0} → E → Result A E → Result A E → Type 0
 Gives none r x = (r ≡ x) ⊎ (r ≡ Err none)
 
 -- a reason that is handed on
-pub refusal_so : (bytes : List ℕ) (f : SourceError) → (f ≡ wrong.NoMemory) ⊎ Unchecked bytes f → (of_source f ≡ NoMemory) ⊎ Refuses bytes (of_source f)
+pub refusal_so : (bytes : List ℕ) (f : SourceError) → (f ≡ wrong.NoMemory) ⊎ Unchecked bytes f → (of_source f ≡ NoMemory) ⊎ IsRefusedFor bytes (of_source f)
 refusal_so bytes f (inl none) = inl (ap of_source none)
 refusal_so bytes (wrong.Lex e) (inr h) = inr h
 refusal_so bytes (wrong.Parse e) (inr h) = inr h
@@ -41,7 +41,7 @@ module _ (bytes : List ℕ) (f : SourceError) (passes : (p : Program) → IsChec
     | inr x ↦ let none : f ≡ wrong.NoMemory = cc in inr (ap of_source none)
   ]
 
-  pub refused_first : (e : BuildError) → Refuses bytes e → (of_source f ≡ e) ⊎ (of_source f ≡ NoMemory)
+  pub refused_first : (e : BuildError) → IsRefusedFor bytes e → (of_source f ≡ e) ⊎ (of_source f ≡ NoMemory)
   refused_first (Source (wrong.Lex e)) h = told_so (wrong.Lex e) refl h
   refused_first (Source (wrong.Parse e)) h = told_so (wrong.Parse e) refl h
   refused_first (Source (wrong.Check e)) h = told_so (wrong.Check e) refl h
@@ -57,7 +57,7 @@ module _ (bytes : List ℕ) (q : Program) (passes : (p : Program) → IsChecked 
   pub is_straight : (p : Program) → IsServed bytes p → IsStraight q
   is_straight p s = subst IsStraight (sym (is_program p s.checked)) s.straight
 
-  pub unsupported_only : (e : BuildError) → Refuses bytes e → e ≡ Unsupported
+  pub unsupported_only : (e : BuildError) → IsRefusedFor bytes e → e ≡ Unsupported
   unsupported_only (Source e) h = absurd (no_error q _ _ (exact e h))
   unsupported_only Unsupported h = refl
   unsupported_only NoMemory h = absurd h
@@ -65,5 +65,5 @@ module _ (bytes : List ℕ) (q : Program) (passes : (p : Program) → IsChecked 
   is_supported : IsStraight q → ¬ IsUnsupported bytes
   is_supported straight u = u.other (subst IsStraight (is_program u.program u.checked) straight)
 
-  pub accepted : IsStraight q → (e : BuildError) → ¬ Refuses bytes e
-  accepted straight e h = is_supported straight (subst (Refuses bytes) (unsupported_only e h) h)
+  pub accepted : IsStraight q → (e : BuildError) → ¬ IsRefusedFor bytes e
+  accepted straight e h = is_supported straight (subst (IsRefusedFor bytes) (unsupported_only e h) h)

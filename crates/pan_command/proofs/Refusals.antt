@@ -1,7 +1,6 @@
 -- What a refused source leaves, by what was answered.
 use Rattle.std.proofs.Common.{◌≡◌, ℕ, List, inl, inr, Ok, Err}
 use Rattle.std.specs.Prelude.{◌⊎◌}
-use Rattle.pan_base.specs.Files.{NoneChanged}
 use Rattle.pan_tree.specs.declared.program.Program.{Program}
 use Rattle.front_end.specs.Sources.{IsChecked, Unchecked}
 use Rattle.front_end.specs.declared.error.SourceError.{SourceError}
@@ -9,9 +8,9 @@ use Rattle.front_end.specs.declared.error.SourceError.TheVariants as wrong
 use Rattle.front_end.proofs.Reasons.{no_error}
 use Rattle.pan_command.specs.declared.error.BuildError.{BuildError}
 use Rattle.pan_command.specs.declared.error.BuildError.TheVariants.{Source, NoMemory}
-use Rattle.pan_command.specs.Outside.{Outside, Holds}
-use Rattle.pan_command.specs.Served.{IsServed, Refuses, source_line}
-use Rattle.pan_command.specs.Compile.{Refused}
+use Rattle.pan_command.specs.Outside.{Outside, Call, files_before, NoFileChanged, Holds}
+use Rattle.pan_command.specs.Served.{IsServed, IsRefusedFor, source_line}
+use Rattle.pan_command.specs.Compile.{CompileRefused}
 use Rattle.pan_command.specs.Check.{Unpassed}
 use Rattle.pan_command.specs.Reading.{IsSource}
 use Rattle.pan_command.proofs.Reasons.{Gives, is_program, starved_so}
@@ -26,14 +25,14 @@ same_error none e f other (inl is) = cc
 same_error none e f other (inr is) = absurd (other (cc))
 
 -- the source was not compiled
-pub refused_so : (before after : Outside) (source bytes : List ℕ) (error : BuildError) → Holds (before.files).files source bytes → (error ≡ NoMemory → ⊥) → (error ≡ NoMemory) ⊎ Refuses bytes error
-    → ((e : BuildError) → Refuses bytes e → Gives {A = List ℕ} NoMemory (Err error) (Err e)) → ((p : Program) → IsServed bytes p → error ≡ NoMemory)
-    → (Prints : List ℕ → Type 0) → NoneChanged (before.files).files (after.files).files → Prints (source_line error) → Refused Prints before after source
-refused_so before after source bytes error held other refused exact served Prints unchanged line = record {
+pub refused_so : (call : Call) (source bytes : List ℕ) (error : BuildError) → Holds (files_before call) source bytes → (error ≡ NoMemory → ⊥) → (error ≡ NoMemory) ⊎ IsRefusedFor bytes error
+    → ((e : BuildError) → IsRefusedFor bytes e → Gives {A = List ℕ} NoMemory (Err error) (Err e)) → ((p : Program) → IsServed bytes p → error ≡ NoMemory)
+    → (Prints : List ℕ → Type 0) → NoFileChanged call → Prints (source_line error) → CompileRefused Prints call source
+refused_so call source bytes error held other refused exact served Prints unchanged line = record {
   bytes = bytes;
   held = held;
   reason = error;
-  refused = not_memory (Refuses bytes) NoMemory error other refused;
+  refused = not_memory (IsRefusedFor bytes) NoMemory error other refused;
   only = λ e h. same_error {A = List ℕ} NoMemory e error other (exact e h);
   unserved = λ p s. other (served p s);
   same = unchanged;

@@ -8,9 +8,9 @@ use Rattle.pan_tree.specs.declared.program.Program.{Program}
 use Rattle.pan_agree.specs.Faithful.{Faithful}
 use Rattle.pan_command.specs.declared.status.Status.{Status}
 use Rattle.pan_command.specs.declared.status.Status.TheVariants as status
-use Rattle.pan_command.specs.Served.{IsServed, Refuses}
+use Rattle.pan_command.specs.Served.{IsServed, IsRefusedFor}
 use Rattle.pan_command.specs.declared.error.BuildError.{BuildError}
-use Rattle.pan_command.specs.Outside.{Outside, Holds}
+use Rattle.pan_command.specs.Outside.{Outside, between, Holds}
 use Rattle.pan_command.specs.Compile.{Built, CompileEnds, StoreEnds}
 
 stored_after : (a b c : Option Files) (name bytes : List ℕ) → NoneChanged a b → Stored b c name bytes → Stored a c name bytes
@@ -30,7 +30,7 @@ stored_below_after limit None (Some g) c name bytes same stored = absurd same
 stored_below_after limit (Some f) None c name bytes same stored = absurd same
 stored_below_after limit (Some f) (Some g) None name bytes same stored = absurd stored
 
-module _ (before mid after : Outside) (source name bytes : List ℕ) (image : List ℕ) (held : Holds (before.files).files source bytes) (built : (program : Program) × IsServed bytes program × Faithful program image None) (accepted : (e : BuildError) → ¬ Refuses bytes e) (same : NoneChanged (before.files).files (mid.files).files) (writes : (mid.files).failed_writes ≡ (before.files).failed_writes) (out : mid.out ≡ before.out) where
+module _ (before mid after : Outside) (source name bytes : List ℕ) (image : List ℕ) (held : Holds (before.files).files source bytes) (built : (program : Program) × IsServed bytes program × Faithful program image None) (accepted : (e : BuildError) → ¬ IsRefusedFor bytes e) (same : NoneChanged (before.files).files (mid.files).files) (writes : (mid.files).failed_writes ≡ (before.files).failed_writes) (out : mid.out ≡ before.out) where
   abbrev made : Built before source
   made = record { bytes = bytes; held = held; program = built.0; served = built.1; accepted = accepted; image = image; bound = None; unbounded = refl; faithful = built.2 }
 
@@ -43,7 +43,7 @@ module _ (before mid after : Outside) (source name bytes : List ℕ) (image : Li
   wrote : Rose (mid.files).failed_writes (after.files).failed_writes → Rose (before.files).failed_writes (after.files).failed_writes
   wrote h = subst (λ n. Rose n (after.files).failed_writes) writes h
 
-  pub compile_ends : (s : Status) → StoreEnds name image mid after s → CompileEnds source name before after s
+  pub compile_ends : (s : Status) → StoreEnds name image (between mid after) s → CompileEnds source name (between before after) s
   compile_ends status.Done h = record { built = made; stored = stored_after _ _ _ _ _ same h.0; line = took _ h.1 }
   compile_ends status.Usage h = absurd h
   compile_ends status.NoImage h = absurd h
