@@ -2,13 +2,12 @@
 use Rattle.std.specs.Prelude.{◌≡◌, ◌⊎◌, ◌≤◌, ℕ, List, [], Result, Ok, Err}
 use Rattle.pan_tree.specs.declared.program.Program.{Program}
 use Rattle.image_file.specs.Parts.{ImageParts}
-use Rattle.riscv_isa.specs.Image.{ImageOf}
 use Rattle.device_script.specs.Script.{Content, script_of_file}
 use Rattle.pan_command.specs.declared.status.Status.{Status}
 use Rattle.pan_command.specs.declared.status.Status.TheVariants as status
 use Rattle.pan_command.specs.Outside.{Call, files_before, NoFileChanged, Holds, IsPut, IsPutInPart, PutFailed}
 use Rattle.pan_command.specs.Check.{Unpassed}
-use Rattle.pan_command.specs.Reading.{FileUnread, IsSource, ScriptRefused}
+use Rattle.pan_command.specs.Reading.{FileUnread, IsImage, IsSource, ScriptRefused}
 use Rattle.pan_command.specs.Run.{NoImage}
 
 -- nothing was put, no write failed, and the count of failed reads didn't fall
@@ -31,7 +30,7 @@ ReadsFile name call r = NoFileChanged call × FileCases name call r
 -- the image of a file, or why there is none
 abbrev pub ImageCases : List ℕ → Call → Result ImageParts Status → Type 0
 ImageCases name call (Ok image) =
-    (bytes : List ℕ) × Holds (files_before call) name bytes × ImageOf bytes image.code image.names image.bound × IsQuiet call
+    (bytes : List ℕ) × Holds (files_before call) name bytes × IsImage bytes image × IsQuiet call
 ImageCases name call (Err status.Unread) = FileUnread (IsPut call) call name
 ImageCases name call (Err status.NoImage) = NoImage (IsPut call) call.before name
 ImageCases name call (Err status.Unput) =

@@ -33,6 +33,11 @@ pub record IsSource (bytes : List ℕ) (program : Program) : Type 0 where
   pub only : (other : Program) → IsChecked bytes other → other ≡ program
   pub accepted : (e : SourceError) → ¬ Unchecked bytes e
 
+-- the bytes are an image of these parts and of no others
+pub record IsImage (bytes : List ℕ) (parts : ImageParts) : Type 0 where
+  pub layout : ImageOf bytes parts.code parts.names parts.bound
+  pub only : (others : ImageParts) → ImageOf bytes others.code others.names others.bound → others ≡ parts
+
 -- the file was read and its bytes are a source
 pub record SourceRead (before : Outside) (name : List ℕ) : Type 0 where
   pub bytes : List ℕ
@@ -45,7 +50,7 @@ pub record ImageRead (before : Outside) (name : List ℕ) : Type 0 where
   pub bytes : List ℕ
   pub held : Holds (before.files).files name bytes
   pub parts : ImageParts
-  pub layout : ImageOf bytes parts.code parts.names parts.bound
+  pub image : IsImage bytes parts
 
 -- the file was read and its bytes are a script
 pub record ScriptRead (before : Outside) (name : List ℕ) : Type 0 where

@@ -8,7 +8,7 @@ use Rattle.pan_command.specs.declared.error.BuildError.TheVariants.{NoMemory}
 use Rattle.pan_command.specs.Outside.{outside, the_call, Holds}
 use Rattle.pan_command.specs.declared.error.BuildError.{BuildError}
 use Rattle.pan_command.proofs.Storing.{compile_ends}
-use Rattle.front_end.proofs.Reasons.{no_error}
+use Rattle.pan_command.proofs.Results.{no_error}
 use Rattle.pan_command.proofs.Refusals.{refused_so}
 use Rattle.pan_command.proofs.compiling.compile.Goals as goal
 
@@ -19,7 +19,7 @@ returns-in-Ok-build g c =
     let q = c.in-Ok.ensures in
     let held : Holds (g.W.Workspace.state c.args.files.now).files c.args.source.now bytes = rw c.as_slice.ensures q.1.0 in
     let built : (program : Program) × IsServed bytes program × Faithful program image None = rw c.as_slice-in-Ok-build.ensures c.in-Ok-build.ensures.built in
-    let accepted : (e : BuildError) → ¬ IsRefusedFor bytes e = λ e h. no_error _ _ _ (c.in-Ok-build.ensures.exact e h) in
+    let accepted : (e : BuildError) → ¬ IsRefusedFor bytes e = λ e h. no_error NoMemory e _ (c.in-Ok-build.ensures.exact e h) in
     compile_ends (outside (g.W.Workspace.state c.args.files.now) (g.O.Sink.state c.args.out.now)) (outside (g.W.Workspace.state c.read_file.new.files) (g.O.Sink.state c.read_file.new.out)) _ c.args.source.now c.args.image.now bytes image held built accepted q.0 q.1.1.writes q.1.1.out c.store.result c.store.ensures
 
 pub returns-in-Ok-put_source_line : goal.returns-in-Ok-put_source_line
