@@ -1,0 +1,44 @@
+//! Laws of the definitions, on calls that do nothing.
+
+ghost use Rattle.std.specs.Prelude.{◌≡◌, ℕ, List, ◌+◌, ◌*◌, ◌%◌, ◌^◌, ◌≤◌, ◌<◌, ◌⊎◌, [], ◌++◌, length};
+ghost use Rattle.pan_base.specs.Bytes.{number_at, with_number, number_of_bytes, with_bytes_of};
+ghost use Rattle.pan_base.specs.Events.{Event, IsPrefix, byte_count};
+ghost use Rattle.pan_base.specs.Sinks.{SinkState, Took, TookFront};
+ghost use Rattle.pan_base.specs.Words.{IsBytes};
+ghost use Rattle.pan_base.specs.declared.events.Size.{Size};
+
+/// A number that is written into a row of bytes is read there, modulo what so many bytes hold, and no number elsewhere
+/// changes, whatever its size. The row stays as long, and bytes stay bytes. To read or write a number is to read or
+/// write its bytes, one after another.
+pub fn numbers_in_bytes()
+    ensures number_read_back { (size : Size) (bytes : List ℕ) (at n : ℕ) → at + byte_count size ≤ length bytes
+        → number_at size (with_number size bytes at n) at ≡ n % 2 ^ (8 * byte_count size) }
+    ensures number_elsewhere { (size other : Size) (bytes : List ℕ) (at n from : ℕ) → at + byte_count size ≤ length bytes
+        → (from + byte_count other ≤ at) ⊎ (at + byte_count size ≤ from)
+        → number_at other (with_number size bytes at n) from ≡ number_at other bytes from }
+    ensures same_length { (size : Size) (bytes : List ℕ) (at n : ℕ) → at + byte_count size ≤ length bytes
+        → length (with_number size bytes at n) ≡ length bytes }
+    ensures stay_bytes { (size : Size) (bytes : List ℕ) (at n : ℕ) → IsBytes bytes → IsBytes (with_number size bytes at n) }
+    ensures number_fits { (size : Size) (bytes : List ℕ) (at : ℕ) → IsBytes bytes
+        → number_at size bytes at < 2 ^ (8 * byte_count size) }
+    ensures read_by_bytes { (size : Size) (bytes : List ℕ) (at : ℕ)
+        → number_at size bytes at ≡ number_of_bytes (byte_count size) bytes at }
+    ensures written_by_bytes { (size : Size) (bytes : List ℕ) (at n : ℕ) → at + byte_count size ≤ length bytes
+        → with_number size bytes at n ≡ with_bytes_of (byte_count size) bytes at n }
+{}
+
+/// Each trace is a prefix of itself, and a prefix of a prefix is a prefix.
+pub fn prefixes()
+    ensures reflexive { (events : List Event) → IsPrefix events events }
+    ensures transitive { (a b c : List Event) → IsPrefix a b → IsPrefix b c → IsPrefix a c }
+{}
+
+/// What a sink tells goes on by nothing where nothing is put, by one text after another, and by a front of a text that
+/// follows others.
+pub fn sinks_go_on()
+    ensures nothing { (a : SinkState) → Took a a [] }
+    ensures more { (a b c : SinkState) (first second : List ℕ) → Took a b first → Took b c second
+        → Took a c (first ++ second) }
+    ensures front { (a b c : SinkState) (first second rest all : List ℕ) → Took a b first → TookFront b c second
+        → all ≡ first ++ (second ++ rest) → TookFront a c all }
+{}
