@@ -1,5 +1,5 @@
 -- Lawful names.
-use Rattle.std.proofs.Common.{◌≡◌, ℕ, ◌≤◌, Bool, true, false, ◌&&◌, ◌||◌, not, List, [], ◌∷◌, ◌++◌, length, codes, leb, All, IsTrue, refl, sym, ◌∙◌}
+use Rattle.std.proofs.Common.{◌≡◌, ℕ, ◌≤◌, Bool, true, false, ◌&&◌, ◌||◌, not, List, [], ◌∷◌, ◌++◌, length, leb, All, IsTrue, refl, sym, ◌∙◌}
 use Rattle.std.specs.List.{list_any, AllByRecursion}
 use Rattle.std.specs.Str.{bytes_eq}
 use Rattle.std.specs.Bool.{one_answer}
@@ -7,26 +7,22 @@ use Rattle.std.proofs.lemmas.Slice.Eq.{bytes_eq-Decides}
 use Rattle.std.proofs.lemmas.List.Folds.{list_any-append}
 use Rattle.std.proofs.lemmas.Bool.{and_parts, leb-true}
 use Rattle.std.proofs.lemmas.List.Elements.{All-from_recursion}
-use Rattle.pan_base.specs.Names.{is_spelled}
-use Rattle.riscv_isa.specs.Image.{is_foreign_name, are_foreign_names}
+use Rattle.pan_base.specs.Names.{is_foreign_name, is_short_foreign_name}
+use Rattle.riscv_isa.specs.Image.{are_foreign_names}
 
-pub name_is_short : (name : List ℕ) → is_foreign_name name ≡ true → length name ≤ 64
-name_is_short name h =
-    let a = and_parts (is_spelled name && leb (length name) 64 && not (bytes_eq name (codes "base"))) (not (bytes_eq name (codes "biw"))) h in
-    let b = and_parts (is_spelled name && leb (length name) 64) (not (bytes_eq name (codes "base"))) a.0 in
-    let c = and_parts (is_spelled name) (leb (length name) 64) b.0 in
-    leb-true (length name) 64 c.1
+pub name_is_short : (name : List ℕ) → is_short_foreign_name name ≡ true → length name ≤ 64
+name_is_short name h = leb-true (length name) 64 (and_parts (is_foreign_name name) (leb (length name) 64) h).1
 
 -- what the names of a lawful row are
 pub record Splits (name : List ℕ) (names : List (List ℕ)) : Type 0 where
-  pub first : is_foreign_name name ≡ true
+  pub first : is_short_foreign_name name ≡ true
   pub apart : not (list_any (λ other. bytes_eq other name) names) ≡ true
   pub rest : are_foreign_names names ≡ true
 
 pub names_split : (name : List ℕ) (names : List (List ℕ)) → are_foreign_names (name ∷ names) ≡ true → Splits name names
 names_split name names h =
-    let a = and_parts (is_foreign_name name && not (list_any (λ other. bytes_eq other name) names)) (are_foreign_names names) h in
-    let b = and_parts (is_foreign_name name) (not (list_any (λ other. bytes_eq other name) names)) a.0 in
+    let a = and_parts (is_short_foreign_name name && not (list_any (λ other. bytes_eq other name) names)) (are_foreign_names names) h in
+    let b = and_parts (is_short_foreign_name name) (not (list_any (λ other. bytes_eq other name) names)) a.0 in
     record { first = b.0; apart = b.1; rest = a.1 }
 
 each_is_short : (names : List (List ℕ)) → are_foreign_names names ≡ true → AllByRecursion (λ name. length name ≤ 64) names
@@ -52,11 +48,11 @@ push_tests true false false d e f = refl
 
 -- a row with one name more is lawful if it was and the name is, and differs from the others
 pub are_foreign_names-push : (names : List (List ℕ)) (name : List ℕ)
-    → are_foreign_names (names ++ name ∷ []) ≡ (are_foreign_names names && is_foreign_name name && not (list_any (λ other. bytes_eq other name) names))
-are_foreign_names-push [] name = elim (is_foreign_name name) as (λ b. (b && not false && true) ≡ (true && b && not false)) [ true ↦ refl | false ↦ refl ]
+    → are_foreign_names (names ++ name ∷ []) ≡ (are_foreign_names names && is_short_foreign_name name && not (list_any (λ other. bytes_eq other name) names))
+are_foreign_names-push [] name = elim (is_short_foreign_name name) as (λ b. (b && not false && true) ≡ (true && b && not false)) [ true ↦ refl | false ↦ refl ]
 are_foreign_names-push (x ∷ xs) name =
     rw (list_any-append (λ other. bytes_eq other x) xs (name ∷ []), are_foreign_names-push xs name, flips name x)
-    (push_tests (is_foreign_name x) (list_any (λ other. bytes_eq other x) xs) (bytes_eq x name) (are_foreign_names xs) (is_foreign_name name) (list_any (λ other. bytes_eq other name) xs))
+    (push_tests (is_short_foreign_name x) (list_any (λ other. bytes_eq other x) xs) (bytes_eq x name) (are_foreign_names xs) (is_short_foreign_name name) (list_any (λ other. bytes_eq other name) xs))
 
 -- ---- a front of a lawful row
 
@@ -71,7 +67,7 @@ are_foreign_names-front (x ∷ xs) ys h =
     let apart : not (list_any (λ other. bytes_eq other x) xs) ≡ true = not_or (list_any (λ other. bytes_eq other x) xs) (list_any (λ other. bytes_eq other x) ys) (rw list_any-append at s.apart) in
     rw (s.first, apart, are_foreign_names-front xs ys s.rest) refl
 
-pub last_is_lawful : (names : List (List ℕ)) (name : List ℕ) → are_foreign_names (names ++ name ∷ []) ≡ true → is_foreign_name name ≡ true
+pub last_is_lawful : (names : List (List ℕ)) (name : List ℕ) → are_foreign_names (names ++ name ∷ []) ≡ true → is_short_foreign_name name ≡ true
 last_is_lawful names name h =
-    let a = and_parts (are_foreign_names names && is_foreign_name name) (not (list_any (λ other. bytes_eq other name) names)) (sym (are_foreign_names-push names name) ∙ h) in
-    (and_parts (are_foreign_names names) (is_foreign_name name) a.0).1
+    let a = and_parts (are_foreign_names names && is_short_foreign_name name) (not (list_any (λ other. bytes_eq other name) names)) (sym (are_foreign_names-push names name) ∙ h) in
+    (and_parts (are_foreign_names names) (is_short_foreign_name name) a.0).1

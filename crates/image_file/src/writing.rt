@@ -4,6 +4,7 @@ ghost use Rattle.std.specs.Prelude.{◌≡◌, ◌≤◌, ◌<◌, ◌^◌, ◌+
 ghost use Rattle.std.specs.Option.{unwrap_or};
 ghost use Rattle.riscv_isa.specs.Image.{IsLawfulImage, ImageOf, names_part};
 ghost use Rattle.image_file.specs.Fields.{padding};
+ghost use Rattle.image_file.specs.Parts.{parts_of};
 ghost use Rattle.image_file.specs.Split.{header};
 
 use crate::header::padding_of;
@@ -80,8 +81,8 @@ pub fn write_image(
     names: &Names,
     bound: Option<u64>,
 ) -> Result<Blob, NoMemory>
-    requires { IsLawfulImage code.now.bytes names.now.list bound }
-    ensures { IfOk result (λ image. ImageOf image code.now.bytes names.now.list bound) }
+    requires { IsLawfulImage (parts_of code.now names.now bound) }
+    ensures { IfOk result (λ image. ImageOf image (parts_of code.now names.now bound)) }
 {
     let code = code.bytes.as_slice();
     let names = names.list.as_slice();

@@ -1,3 +1,5 @@
 pub mod DecodedLaws
-pub mod KnownResults
+pub mod Fetching
+pub mod RunLaws
+pub mod Spelling
 pub mod KnownRuns

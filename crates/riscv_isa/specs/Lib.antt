@@ -1,7 +1,8 @@
 pub mod Table
 pub mod Decoded
+pub mod Held
 pub mod Regions
-pub mod Results
+pub mod Running
 pub mod Step
-pub mod Machine
 pub mod Image
+pub mod Machine

@@ -15,11 +15,13 @@ mod known_words;
 mod laws;
 mod pending;
 mod place;
+mod words;
 
 pub use code::{Code, Names};
 pub use decoding::decode;
 pub use encoding::encode;
 pub use instr::Instr;
-pub use laws::{decoded_is_the_table, read_written, write_read};
+pub use laws::{decoded_is_the_table, machine_goes_on, read_written, runs_go_on, write_read};
 pub use pending::{Buffer, Pending};
 pub use place::{Place, Region};
+pub use words::spell;

@@ -3,7 +3,7 @@
 ghost use Rattle.std.specs.Prelude.{◌≡◌, ◌+◌, ◌<◌, ◌^◌, IfSome};
 ghost use Rattle.riscv_isa.specs.Decoded.{decoded};
 ghost use Rattle.riscv_isa.specs.Table.{InRange};
-ghost use Rattle.riscv_machine.specs.View.{IsUnrefused};
+ghost use Rattle.riscv_machine.specs.View.{IsUnrefused, IsKeptAtEnd};
 
 use crate::machine::{Machine, MachineEnd, Phase};
 use crate::memory::read_word;
@@ -58,6 +58,7 @@ impl Machine {
         ensures config { config_of self.new ≡ act instr (state_of self.old) }
         ensures size { HasSize self.old self.new }
         ensures unrefused { IsUnrefused self.new.phase }
+        ensures kept { IsKeptAtEnd self.new.phase (state_of self.old) (state_of self.new) }
     {
         match instr {
             Instr::R { op, rd, rs1, rs2 } => {
@@ -95,6 +96,7 @@ impl Machine {
         ensures config { config_of self.new ≡ step (state_of self.old) }
         ensures size { HasSize self.old self.new }
         ensures unrefused { IsUnrefused self.new.phase }
+        ensures kept { IsKeptAtEnd self.new.phase (state_of self.old) (state_of self.new) }
     {
         match self.next_instruction() {
             Some(instr) => self.act(instr),
