@@ -1,12 +1,17 @@
 -- From the forward direction to all of the agreement: a law of any source and any machine whose longer runs go on from the shorter ones.
-use Rattle.std.proofs.Common.{◌≡◌, ◌≢◌, ℕ, ◌+◌, ◌-◌, ◌≤◌, ◌<◌, sym, ap, ◌∙◌, subst, List, ◌++◌, append_assoc, arith, inl, inr}
+use Rattle.std.proofs.Common.{◌≡◌, ◌≢◌, ℕ, ◌+◌, ◌-◌, ◌≤◌, ◌<◌, sym, ap, ◌∙◌, subst, List, [], ◌++◌, append_assoc, arith, inl, inr}
 use Rattle.std.specs.Prelude.{◌⊎◌, IsTrue}
+use Rattle.std.proofs.lemmas.List.{append-nil}
 use Rattle.std.proofs.lemmas.Bool.{false≢true}
 use Rattle.pan_base.specs.Events.{Event, Ending, Spent, Stack, Fails, Behaviour, IsPrefix}
 use Rattle.pan_control.specs.Seen.{Seen}
 use Rattle.pan_agree.specs.Agree.{is_real, Overflows, DoesNoMore, Agree}
-use Rattle.pan_agree.specs.Laws.{IsSteady, IsSourceLike, DoesInTime, ForwardInTime}
-use Rattle.pan_agree.proofs.Longer.{prefix_refl}
+use Rattle.pan_tree.specs.Ends.{IsSourceLike}
+use Rattle.riscv_isa.specs.Running.{IsSteady}
+use Rattle.pan_agree.specs.Laws.{DoesInTime, ForwardInTime, ForwardWithin}
+
+pub prefix_refl : (xs : List Event) → IsPrefix xs xs
+prefix_refl xs = record { rest = []; all = sym (append-nil xs) }
 
 prefix_trans : (xs ys zs : List Event) → IsPrefix xs ys → IsPrefix ys zs → IsPrefix xs zs
 prefix_trans xs ys zs p q = record { rest = p.rest ++ q.rest; all = q.all ∙ ap (λ t. t ++ q.rest) p.all ∙ append_assoc xs p.rest q.rest }
@@ -87,3 +92,7 @@ module _ (stack : ℕ) (source : ℕ → Seen) (machine : ℕ → Behaviour) (st
     backward = λ never k. let f = forward k (never k) in no_more k f.0 f.1 (stands k f.0);
     exhausts = λ never k end. let f = forward k (never k) in (k, overflowed k f.0 end f.1 (stands k f.0));
   }
+
+-- what is done within limits is done in time
+pub in_time : (stack : ℕ) (limit : ℕ → ℕ) (source : ℕ → Seen) (machine : ℕ → Behaviour) → ForwardWithin stack limit source machine → ForwardInTime stack source machine
+in_time stack limit source machine f n not_failed = let (k, _, does) = f n not_failed in (k, does)

@@ -2,3 +2,4 @@ pub mod ShapeLayers
 pub mod MeaningLayers
 pub mod OwnWeights
 pub mod GoesOn
+pub mod Ends

@@ -12,7 +12,7 @@ mod syntax;
 #[cfg(test)]
 mod tests;
 
-pub use laws::source_goes_on;
+pub use laws::{source_goes_on, source_meets_no_limit};
 pub use level::Level;
 pub use program::{Exception, Function, Param, Program};
 pub use rule::Rule;

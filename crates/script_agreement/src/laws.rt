@@ -9,7 +9,8 @@ ghost use Rattle.riscv_isa.specs.Machine.{machine, IsLawfulMemory, IsLawfulStack
 ghost use Rattle.pan_agree.specs.Faithful.{Faithful};
 ghost use Rattle.device_script.specs.Script.{Content, script_of_file};
 ghost use Rattle.device_script.specs.Memory.{filled};
-ghost use Rattle.script_agreement.specs.Given.{IsGiven, Concur};
+ghost use Rattle.device_script.specs.Runs.{IsGiven};
+ghost use Rattle.script_agreement.specs.Given.{Concur};
 
 /// A script gives one list of replies: with so many units of fuel to a source, and with so many steps to a machine.
 pub fn given_once()

@@ -1,6 +1,5 @@
-use Rattle.pan_agree.proofs.Longer.{steady}
-use Rattle.pan_agree.proofs.BothWays.{agrees}
+use Rattle.pan_agree.proofs.BothWays.{agrees, in_time}
 use Rattle.pan_agree.proofs.laws.both_ways.Goals as goal
 
 pub returns : goal.returns
-returns c = record { steady = steady; agree = agrees }
+returns c = record { agree = agrees; in_time = in_time }

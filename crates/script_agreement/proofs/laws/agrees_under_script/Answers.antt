@@ -6,7 +6,8 @@ use Rattle.image_file.proofs.WrittenLaws.{same_image}
 use Rattle.device_script.specs.Device.{Steps}
 use Rattle.device_script.specs.Memory.{filled}
 use Rattle.pan_agree.proofs.Longer.{steady}
-use Rattle.script_agreement.specs.Given.{device, IsGiven, Concur}
+use Rattle.device_script.specs.Runs.{device, IsGiven}
+use Rattle.script_agreement.specs.Given.{Concur}
 use Rattle.script_agreement.proofs.ScriptDevices.{determined}
 use Rattle.script_agreement.proofs.SourceOrder.{source_runs}
 use Rattle.script_agreement.proofs.MachineOrder.{machine_runs}

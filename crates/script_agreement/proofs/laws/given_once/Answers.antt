@@ -1,5 +1,5 @@
 use Rattle.device_script.specs.Device.{Steps}
-use Rattle.script_agreement.specs.Given.{device}
+use Rattle.device_script.specs.Runs.{device}
 use Rattle.script_agreement.proofs.ScriptDevices.{determined}
 use Rattle.script_agreement.proofs.SourceOrder.{source_runs}
 use Rattle.script_agreement.proofs.MachineOrder.{machine_runs}
