@@ -5,9 +5,8 @@ use Rattle.pan_tree.specs.declared.program.Program.{Program}
 use Rattle.front_end.specs.Sources.{IsChecked, Unchecked}
 use Rattle.front_end.specs.declared.error.SourceError.{SourceError}
 use Rattle.front_end.specs.declared.error.SourceError.TheVariants as wrong
-use Rattle.riscv_isa.specs.Image.{ImageOf}
+use Rattle.riscv_isa.specs.Image.{ImageParts, ImageOf}
 use Rattle.image_file.specs.Faults.{fault_of}
-use Rattle.image_file.specs.Parts.{ImageParts}
 use Rattle.image_file.specs.declared.error.ImageError.{ImageError}
 use Rattle.image_file.specs.declared.error.ImageError.TheVariants as fault
 use Rattle.pan_command.specs.declared.error.BuildError.{BuildError}
@@ -63,12 +62,12 @@ source_so bytes q checked passes exact = record {
 -- ---- images
 
 -- the bytes were read to these parts
-pub image_so : (bytes : List ℕ) (q : ImageParts) → ImageOf bytes q.code q.names q.bound → ((p : ImageParts) → ImageOf bytes p.code p.names p.bound → Gives fault.NoMemory (Ok q) (Ok p)) → IsImage bytes q
+pub image_so : (bytes : List ℕ) (q : ImageParts) → ImageOf bytes q → ((p : ImageParts) → ImageOf bytes p → Gives fault.NoMemory (Ok q) (Ok p)) → IsImage bytes q
 image_so bytes q layout complete = record { layout = layout; only = λ p s. same_value fault.NoMemory q p (complete p s) }
 
 -- the bytes are no image
 pub no_image_so : (before : Outside) (image bytes : List ℕ) (e : ImageError) → Holds (before.files).files image bytes → (e ≡ fault.NoMemory → ⊥) → fault_of bytes ≡ Some e
-    → ((p : ImageParts) → ImageOf bytes p.code p.names p.bound → Gives fault.NoMemory (Err e) (Ok p)) → (Prints : List ℕ → Type 0) → Prints (image_line e) → NoImage Prints before image
+    → ((p : ImageParts) → ImageOf bytes p → Gives fault.NoMemory (Err e) (Ok p)) → (Prints : List ℕ → Type 0) → Prints (image_line e) → NoImage Prints before image
 no_image_so before image bytes e held other first complete Prints line = record {
   bytes = bytes;
   held = held;

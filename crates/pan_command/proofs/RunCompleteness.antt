@@ -4,9 +4,8 @@ use Rattle.std.specs.Prelude.{◌⊎◌}
 use Rattle.pan_base.specs.Events.{Behaviour, end_of}
 use Rattle.pan_base.specs.Files.{Files}
 use Rattle.pan_base.specs.declared.events.End.{End}
-use Rattle.riscv_isa.specs.Image.{ImageOf}
+use Rattle.riscv_isa.specs.Image.{ImageParts, ImageOf}
 use Rattle.image_file.specs.Faults.{fault_of}
-use Rattle.image_file.specs.Parts.{ImageParts}
 use Rattle.image_file.specs.declared.error.ImageError.{ImageError}
 use Rattle.command_words.specs.declared.order.Options.{Options}
 use Rattle.device_script.specs.Script.{Content, Refusal, script_of_file}
@@ -32,8 +31,8 @@ module _ (before : Outside) (all : Files) (told : (before.files).files ≡ Some 
     image_is : (i : ImageRead before image) → IsImage bytes i.parts
     image_is i = subst (λ b. IsImage b i.parts) (same_bytes _ all image bytes i.bytes told there i.held) i.image
 
-    never_image : (Prints : List ℕ → Type 0) (h : NoImage Prints before image) (parts : ImageParts) → ¬ ImageOf bytes parts.code parts.names parts.bound
-    never_image Prints h = subst (λ b. (parts : ImageParts) → ¬ ImageOf b parts.code parts.names parts.bound) (same_bytes _ all image bytes h.bytes told there h.held) h.never
+    never_image : (Prints : List ℕ → Type 0) (h : NoImage Prints before image) (parts : ImageParts) → ¬ ImageOf bytes parts
+    never_image Prints h = subst (λ b. (parts : ImageParts) → ¬ ImageOf b parts) (same_bytes _ all image bytes h.bytes told there h.held) h.never
 
     fault_is : (Prints : List ℕ → Type 0) (h : NoImage Prints before image) → fault_of bytes ≡ Some h.fault
     fault_is Prints h = sym (ap fault_of (same_bytes _ all image bytes h.bytes told there h.held)) ∙ h.first
@@ -70,7 +69,7 @@ module _ (options : Options) (call : Call) (all : Files) (image script : List �
   missing gone (IsRan end is i r h) = absurd (not_held _ all image i.bytes fine.told gone i.held)
 
   module _ (bytes : List ℕ) (there : all image ≡ Some bytes) where
-    module _ (wrong : (parts : ImageParts) → ¬ ImageOf bytes parts.code parts.names parts.bound) where
+    module _ (wrong : (parts : ImageParts) → ¬ ImageOf bytes parts) where
       not_image : ImageRead call.before image → ⊥
       not_image i = wrong i.parts (image_is call.before all fine.told image bytes there i).layout
 
@@ -81,7 +80,7 @@ module _ (options : Options) (call : Call) (all : Files) (image script : List �
       refused (IsRefused is i h) = absurd (not_image i)
       refused (IsRan end is i r h) = absurd (not_image i)
 
-    module _ (parts : ImageParts) (layout : ImageOf bytes parts.code parts.names parts.bound) where
+    module _ (parts : ImageParts) (layout : ImageOf bytes parts) where
       not_faulty : NoImage (IsPut call) call.before image → ⊥
       not_faulty h = never_image call.before all fine.told image bytes there _ h parts layout
 

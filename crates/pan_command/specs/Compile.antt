@@ -3,6 +3,7 @@ use Rattle.std.specs.Prelude.{◌≡◌, ◌⊎◌, ℕ, List, [], ◌++◌, Opt
 use Rattle.std.specs.Fmt.{decimal}
 use Rattle.pan_base.specs.Files.{Stored, StoredInPart, StoredShort}
 use Rattle.pan_tree.specs.declared.program.Program.{Program}
+use Rattle.riscv_isa.specs.Image.{ImageParts}
 use Rattle.pan_agree.specs.Faithful.{Faithful}
 use Rattle.pan_command.specs.declared.status.Status.{Status}
 use Rattle.pan_command.specs.declared.status.Status.TheVariants as status
@@ -24,10 +25,10 @@ pub record Built (before : Outside) (source : List ℕ) : Type 0 where
   pub served : IsServed bytes program
   pub accepted : (e : BuildError) → ¬ IsRefusedFor bytes e
   pub image : List ℕ
-  pub bound : Option ℕ
+  pub parts : ImageParts
   -- no image has a bound so far
-  pub unbounded : bound ≡ None
-  pub faithful : Faithful program image bound
+  pub unbounded : parts.bound ≡ None
+  pub faithful : Faithful program image parts
 
 -- In what follows `Prints line` says how far the line was put: all of it, or a prefix.
 
@@ -35,7 +36,7 @@ pub record Built (before : Outside) (source : List ℕ) : Type 0 where
 pub record Compiled (Prints : List ℕ → Type 0) (call : Call) (source image : List ℕ) : Type 0 where
   pub built : Built call.before source
   pub stored : Stored (files_before call) (files_after call) image built.image
-  pub line : Prints (bound_line built.bound)
+  pub line : Prints (bound_line (built.parts).bound)
 
 -- the source is refused, for this reason and no other
 pub record CompileRefused (Prints : List ℕ → Type 0) (call : Call) (source : List ℕ) : Type 0 where

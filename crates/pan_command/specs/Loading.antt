@@ -1,7 +1,7 @@
 -- What the reading of a file, of an image, of a source and of a script leaves; no file changes.
 use Rattle.std.specs.Prelude.{◌≡◌, ◌⊎◌, ◌≤◌, ℕ, List, [], Result, Ok, Err}
 use Rattle.pan_tree.specs.declared.program.Program.{Program}
-use Rattle.image_file.specs.Parts.{ImageParts}
+use Rattle.riscv_isa.specs.Image.{ImageParts}
 use Rattle.device_script.specs.Script.{Content, script_of_file}
 use Rattle.pan_command.specs.declared.status.Status.{Status}
 use Rattle.pan_command.specs.declared.status.Status.TheVariants as status

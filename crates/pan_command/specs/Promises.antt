@@ -4,9 +4,8 @@ use Rattle.pan_base.specs.Events.{Behaviour, end_of}
 use Rattle.pan_base.specs.Files.{Files}
 use Rattle.pan_tree.specs.Check.{program_weight}
 use Rattle.pan_tree.specs.declared.program.Program.{Program}
-use Rattle.riscv_isa.specs.Image.{ImageOf}
+use Rattle.riscv_isa.specs.Image.{ImageParts, ImageOf}
 use Rattle.image_file.specs.Faults.{fault_of}
-use Rattle.image_file.specs.Parts.{ImageParts}
 use Rattle.image_file.specs.declared.error.ImageError.{ImageError}
 use Rattle.front_end.specs.Sources.{IsChecked, Unchecked}
 use Rattle.front_end.specs.declared.error.SourceError.{SourceError}
@@ -65,19 +64,19 @@ pub record RunKeeps (options : Options) (image script : List ℕ) (call : Call) 
   pub ends : (s : Status) × (status ≡ code s) × RunEnds options image script call s
   -- any image runs over any script to the status of its end
   pub complete : (files : Files) (parts : ImageParts) (content : Content) → IsUndisturbed call files
-      → Has files image (λ bytes. ImageOf bytes parts.code parts.names parts.bound) → Has files script (λ bytes. script_of_file bytes ≡ Ok content)
+      → Has files image (λ bytes. ImageOf bytes parts) → Has files script (λ bytes. script_of_file bytes ≡ Ok content)
       → OrStarved status ((run : Behaviour) × Plays (image_goes parts content options) content options.steps run × (status ≡ end_code (end_of run.ending)))
   -- bytes that are no image are refused for the first that is wrong with them, and a missing image gives 3
   pub refuses : (files : Files) (bytes : List ℕ) → IsUndisturbed call files → files image ≡ Some bytes
-      → ((parts : ImageParts) → ¬ ImageOf bytes parts.code parts.names parts.bound)
+      → ((parts : ImageParts) → ¬ ImageOf bytes parts)
       → OrStarved status ((fault : ImageError) × (fault_of bytes ≡ Some fault) × (status ≡ 5) × IsPut call (image_line fault))
   pub missing : (files : Files) → IsUndisturbed call files → files image ≡ None → OrStarved status (status ≡ 3)
   -- with any image, a script is refused for its first wrong line, and a missing one gives 3
   pub script_refuses : (files : Files) (parts : ImageParts) (refusal : Refusal) → IsUndisturbed call files
-      → Has files image (λ bytes. ImageOf bytes parts.code parts.names parts.bound) → Has files script (λ bytes. script_of_file bytes ≡ Err refusal)
+      → Has files image (λ bytes. ImageOf bytes parts) → Has files script (λ bytes. script_of_file bytes ≡ Err refusal)
       → OrStarved status ((status ≡ 6) × IsPut call (script_line refusal))
   pub script_missing : (files : Files) (parts : ImageParts) → IsUndisturbed call files
-      → Has files image (λ bytes. ImageOf bytes parts.code parts.names parts.bound) → files script ≡ None → OrStarved status (status ≡ 3)
+      → Has files image (λ bytes. ImageOf bytes parts) → files script ≡ None → OrStarved status (status ≡ 3)
 
 pub record MeaningKeeps (options : Options) (source script : List ℕ) (call : Call) (status : ℕ) : Type 0 where
   -- it ends in one of its ways, and no file changes

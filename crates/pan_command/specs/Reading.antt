@@ -4,8 +4,7 @@ use Rattle.std.specs.Fmt.{decimal}
 use Rattle.pan_tree.specs.declared.program.Program.{Program}
 use Rattle.front_end.specs.Sources.{IsChecked, Unchecked}
 use Rattle.front_end.specs.declared.error.SourceError.{SourceError}
-use Rattle.riscv_isa.specs.Image.{ImageOf}
-use Rattle.image_file.specs.Parts.{ImageParts}
+use Rattle.riscv_isa.specs.Image.{ImageParts, ImageOf}
 use Rattle.device_script.specs.Script.{Content, Refusal, script_of_file}
 use Rattle.device_script.specs.declared.error.Cause.{Cause}
 use Rattle.device_script.specs.declared.error.Cause.TheVariants as cause
@@ -35,8 +34,8 @@ pub record IsSource (bytes : List ℕ) (program : Program) : Type 0 where
 
 -- the bytes are an image of these parts and of no others
 pub record IsImage (bytes : List ℕ) (parts : ImageParts) : Type 0 where
-  pub layout : ImageOf bytes parts.code parts.names parts.bound
-  pub only : (others : ImageParts) → ImageOf bytes others.code others.names others.bound → others ≡ parts
+  pub layout : ImageOf bytes parts
+  pub only : (others : ImageParts) → ImageOf bytes others → others ≡ parts
 
 -- the file was read and its bytes are a source
 pub record SourceRead (before : Outside) (name : List ℕ) : Type 0 where

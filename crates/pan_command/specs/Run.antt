@@ -1,10 +1,9 @@
 -- What the action `run` leaves, by how it ends.
 use Rattle.std.specs.Prelude.{◌≡◌, ◌⊎◌, ℕ, List, [], ◌++◌, Option, Some, Ok, Err, codes}
 use Rattle.std.specs.Fmt.{decimal}
-use Rattle.riscv_isa.specs.Image.{ImageOf}
+use Rattle.riscv_isa.specs.Image.{ImageParts, ImageOf}
 use Rattle.riscv_isa.specs.Machine.{machine}
 use Rattle.image_file.specs.Faults.{fault_of}
-use Rattle.image_file.specs.Parts.{ImageParts}
 use Rattle.image_file.specs.declared.error.FieldName.{FieldName}
 use Rattle.image_file.specs.declared.error.FieldName.TheVariants as field
 use Rattle.image_file.specs.declared.error.ImageError.{ImageError}
@@ -47,15 +46,14 @@ RunUnread Prints call image script =
 pub record NoImage (Prints : List ℕ → Type 0) (before : Outside) (image : List ℕ) : Type 0 where
   pub bytes : List ℕ
   pub held : Holds (before.files).files image bytes
-  pub never : (parts : ImageParts) → ¬ ImageOf bytes parts.code parts.names parts.bound
+  pub never : (parts : ImageParts) → ¬ ImageOf bytes parts
   pub fault : ImageError
   pub first : fault_of bytes ≡ Some fault
   pub line : Prints (image_line fault)
 
 -- what the machine of an image does on the local memory that the script fills, with the stack of the options
 abbrev pub image_goes : ImageParts → Content → Options → Goes
-image_goes image script options replies steps =
-    machine image.code image.names (filled script.pieces options.local) options.stack replies steps
+image_goes parts script options replies steps = machine parts (filled script.pieces options.local) options.stack replies steps
 
 -- a line could not be put, and what was put is a prefix of the text that was to be put
 pub record RunUnput (options : Options) (call : Call) (image script : List ℕ) : Type 0 where

@@ -13,7 +13,7 @@ returns-in-Ok-read_image g c =
     let bytes : List ℕ = c.as_slice.result.now in
     let held : Holds (g.W.Workspace.state c.args.files.now).files c.args.name.now bytes = rw c.as_slice.ensures q.1.0 in
     let read = c.in-Ok-read_image in
-    (q.0, (bytes, held, image_so bytes read.image read.ensures.ok (λ p. read.ensures.complete p.code p.names p.bound), q.1.1))
+    (q.0, (bytes, held, image_so bytes read.image read.ensures.ok (read.ensures.complete), q.1.1))
 
 pub returns-in-Ok-put_image_line : goal.returns-in-Ok-put_image_line
 returns-in-Ok-put_image_line g c =
@@ -25,7 +25,7 @@ returns-in-Ok-put_image_line g c =
     let line : Took (g.O.Sink.state c.args.out.now) (g.O.Sink.state c.put_image_line.new.out) (image_line read.fault) = search rules in (
       q.0,
       no_image_so (outside (g.W.Workspace.state c.args.files.now) (g.O.Sink.state c.args.out.now)) c.args.name.now bytes read.fault held other
-          (read.ensures.faults read.fault refl other) (λ p. read.ensures.complete p.code p.names p.bound) (Took (g.O.Sink.state c.args.out.now) (g.O.Sink.state c.put_image_line.new.out)) line,
+          (read.ensures.faults read.fault refl other) (read.ensures.complete) (Took (g.O.Sink.state c.args.out.now) (g.O.Sink.state c.put_image_line.new.out)) line,
     )
 
 pub returns : goal.returns
@@ -38,5 +38,5 @@ returns g c =
     let cause : Rose (g.O.Sink.state c.args.out.now).faults (g.O.Sink.state c.put_image_line.new.out).faults = search rules in
     let line : TookFront (g.O.Sink.state c.args.out.now) (g.O.Sink.state c.put_image_line.new.out) (image_line read.fault) = search rules in
     let wrong = no_image_so (outside (g.W.Workspace.state c.args.files.now) (g.O.Sink.state c.args.out.now)) c.args.name.now bytes read.fault held other
-    (read.ensures.faults read.fault refl other) (λ p. read.ensures.complete p.code p.names p.bound) (TookFront (g.O.Sink.state c.args.out.now) (g.O.Sink.state c.put_image_line.new.out)) line in
+    (read.ensures.faults read.fault refl other) (read.ensures.complete) (TookFront (g.O.Sink.state c.args.out.now) (g.O.Sink.state c.put_image_line.new.out)) line in
     (q.0, (cause, inr wrong))
