@@ -1,16 +1,17 @@
 //! The text of events and ends.
 
-ghost use Rattle.std.specs.Prelude.{◌≡◌, ◌≤◌, ◌∷◌, []};
+ghost use Rattle.std.specs.Prelude.{◌≡◌, ◌+◌, ◌≤◌, ◌∷◌, [], ◌++◌, length, OnOk};
 ghost use Rattle.std.specs.List.{flat_map};
 ghost use Rattle.pan_base.specs.Causes.{HasCause};
 ghost use Rattle.pan_base.specs.Events.{asked, replied, Fits};
-ghost use Rattle.pan_base.specs.Pieces.{piece_text};
+ghost use Rattle.pan_base.specs.Pieces.{piece_text, Passes};
 ghost use Rattle.pan_base.specs.Sinks.{PutsAll};
 ghost use Rattle.pan_base.specs.Tokens.{bits_text};
 ghost use Rattle.pan_base.specs.Trace.{hex_text, buffer_text, word_text, call_line, event_line, end_line};
 
 use crate::events::{End, Reply, Request, Size};
 use crate::sinks::{Sink, SinkFault, put_all};
+use std::marker::Model;
 
 /// A byte as two hexadecimal digits in lower case.
 fn byte_digits(byte: u8) -> [u8; 2]
@@ -47,26 +48,107 @@ fn bits_of(size: Size) -> &'static [u8]
     }
 }
 
-/// Puts bytes as two hexadecimal digits each.
-fn put_hex<O: Sink>(out: &mut O, bytes: &[u8]) -> Result<(), SinkFault>
-    ensures took { PutsAll (O.state out.old) (O.state out.new) result (hex_text bytes.now) }
-    ensures cause { HasCause (O.state out.old).faults (O.state out.new).faults result }
-{
-    for byte in bytes {
-        put_all(out, &byte_digits(*byte))?;
-    }
-    Ok(())
+/// The end of a line that isn't put yet.
+#[derive(Drop)]
+struct Line {
+    bytes: [u8; 4096],
+    count: usize,
 }
 
-/// Puts a buffer in hexadecimal, and `-` where it is empty.
-fn put_buffer<O: Sink>(out: &mut O, bytes: &[u8]) -> Result<(), SinkFault>
-    ensures took { PutsAll (O.state out.old) (O.state out.new) result (buffer_text bytes.now) }
-    ensures cause { HasCause (O.state out.old).faults (O.state out.new).faults result }
-{
-    if bytes.is_empty() {
-        put_all(out, b"-")
-    } else {
-        put_hex(out, bytes)
+impl Model for Line {
+    ghost use Rattle.std.specs.Prelude.{ℕ, ◌≤◌, List, take};
+
+    ghost Value = { List ℕ };
+
+    ghost view = { λ line. take line.count line.bytes };
+
+    ghost invariant = { λ line. line.count ≤ 4096 };
+}
+
+impl Line {
+    /// No byte.
+    fn new() -> Line
+        ensures { result ≡ [] }
+    {
+        Line {
+            bytes: [0; 4096],
+            count: 0,
+        }
+    }
+
+    /// Puts what is held back.
+    fn put<O: Sink>(&mut self, out: &mut O) -> Result<(), SinkFault>
+        ensures took { PutsAll (O.state out.old) (O.state out.new) result self.old }
+        ensures emptied { OnOk result (self.new ≡ []) }
+        ensures cause { HasCause (O.state out.old).faults (O.state out.new).faults result }
+    {
+        put_all(out, &self.bytes[..self.count])?;
+        self.count = 0;
+        Ok(())
+    }
+
+    /// Goes on by some text, which is put where it is longer than the room for it.
+    fn add<O: Sink>(&mut self, out: &mut O, text: &[u8]) -> Result<(), SinkFault>
+        ensures took { Passes (O.state out.old) (O.state out.new) result self.old self.new text.now }
+        ensures cause { HasCause (O.state out.old).faults (O.state out.new).faults result }
+    {
+        if text.len() <= 4096 - self.count {
+            self.hold(text);
+            return Ok(());
+        }
+        self.put(out)?;
+        if text.len() <= 4096 {
+            self.hold(text);
+            Ok(())
+        } else {
+            put_all(out, text)
+        }
+    }
+
+    /// Holds some text back.
+    fn hold(&mut self, text: &[u8])
+        requires { length self.old + length text.now ≤ 4096 }
+        ensures { self.new ≡ self.old ++ text.now }
+    {
+        let end = self.count + text.len();
+        self.bytes[self.count..end].copy_from_slice(text);
+        self.count = end;
+    }
+
+    /// Goes on by bytes as two hexadecimal digits each.
+    fn add_hex<O: Sink>(&mut self, out: &mut O, bytes: &[u8]) -> Result<(), SinkFault>
+        ensures took { Passes (O.state out.old) (O.state out.new) result self.old self.new (hex_text bytes.now) }
+        ensures cause { HasCause (O.state out.old).faults (O.state out.new).faults result }
+    {
+        for byte in bytes {
+            self.add(out, &byte_digits(*byte))?;
+        }
+        Ok(())
+    }
+
+    /// Goes on by a buffer in hexadecimal, and by `-` where it is empty.
+    fn add_buffer<O: Sink>(&mut self, out: &mut O, bytes: &[u8]) -> Result<(), SinkFault>
+        ensures took { Passes (O.state out.old) (O.state out.new) result self.old self.new (buffer_text bytes.now) }
+        ensures cause { HasCause (O.state out.old).faults (O.state out.new).faults result }
+    {
+        if bytes.is_empty() {
+            self.add(out, b"-")
+        } else {
+            self.add_hex(out, bytes)
+        }
+    }
+
+    /// Goes on by a part of the line.
+    fn add_piece<O: Sink>(&mut self, out: &mut O, piece: Piece<'_>) -> Result<(), SinkFault>
+        ensures took { Passes (O.state out.old) (O.state out.new) result self.old self.new (piece_text piece.entry) }
+        ensures cause { HasCause (O.state out.old).faults (O.state out.new).faults result }
+    {
+        match piece {
+            Piece::Text(text) => self.add(out, text),
+            Piece::Bits(size) => self.add(out, bits_of(size)),
+            Piece::Word(word) => self.add(out, &word_digits(word)),
+            Piece::Buffer(bytes) => self.add_buffer(out, bytes),
+        }
     }
 }
 
@@ -83,28 +165,16 @@ enum Piece<'a> {
     Buffer(&'a [u8]),
 }
 
-/// Puts a part of a line.
-fn put_piece<O: Sink>(out: &mut O, piece: Piece<'_>) -> Result<(), SinkFault>
-    ensures took { PutsAll (O.state out.old) (O.state out.new) result (piece_text piece.entry) }
-    ensures cause { HasCause (O.state out.old).faults (O.state out.new).faults result }
-{
-    match piece {
-        Piece::Text(text) => put_all(out, text),
-        Piece::Bits(size) => put_all(out, bits_of(size)),
-        Piece::Word(word) => put_all(out, &word_digits(word)),
-        Piece::Buffer(bytes) => put_buffer(out, bytes),
-    }
-}
-
-/// Puts the parts one after another.
+/// Puts the parts one after another, at once where they are no longer than 4,096 bytes.
 fn put_pieces<O: Sink>(out: &mut O, pieces: &[Piece<'_>]) -> Result<(), SinkFault>
     ensures took { PutsAll (O.state out.old) (O.state out.new) result (flat_map piece_text pieces.now) }
     ensures cause { HasCause (O.state out.old).faults (O.state out.new).faults result }
 {
+    let mut line = Line::new();
     for piece in pieces {
-        put_piece(out, *piece)?;
+        line.add_piece(out, *piece)?;
     }
-    Ok(())
+    line.put(out)
 }
 
 /// Puts the line of a foreign call.
