@@ -4,5 +4,7 @@ pub mod Held
 pub mod Regions
 pub mod Running
 pub mod Step
+pub mod Sound
+pub mod Ways
 pub mod Image
 pub mod Machine

@@ -1,5 +1,5 @@
 -- Data memory: its regions, and where an access goes.
-use Rattle.std.specs.Prelude.{ℕ, ◌-◌, ◌%◌, ◌==◌, Bool, if◌then◌else◌, List, length}
+use Rattle.std.specs.Prelude.{ℕ, ◌+◌, ◌≤◌, ◌-◌, ◌%◌, ◌==◌, Bool, if◌then◌else◌, List, length}
 use Rattle.pan_base.specs.Bytes.{is_within}
 use Rattle.riscv_isa.specs.declared.place.Region.{Region}
 use Rattle.riscv_isa.specs.declared.place.Region.TheVariants.{Block, Globals, Local, Stack}
@@ -49,3 +49,15 @@ place_of d addr size =
     else (if is_within 0x40000000 0x40000000 addr size then Window
     else Nowhere)))))
     else Nowhere
+
+-- each region ends where the next one or the shared window begins, or before
+pub record AreApart (d : Memory) : Type 0 where
+  pub block : begin Block + length d.block ≤ begin Globals
+  pub globals : begin Globals + length d.globals ≤ begin Local
+  pub local : begin Local + length d.local ≤ begin Stack
+  pub stack : begin Stack + length d.stack ≤ 0x40000000
+
+-- so many bytes from an address on lie in a region
+pub record IsInside (r : Region) (d : Memory) (addr size : ℕ) : Type 0 where
+  pub from : begin r ≤ addr
+  pub to : addr + size ≤ begin r + length (bytes_of r d)
