@@ -1,7 +1,9 @@
 -- With more fuel and more replies a run does the same, or goes on where it was spent or where it asks. A trace only grows.
 use Rattle.std.proofs.Common.{◌≡◌, ℕ, zero, suc, ◌+◌, ◌≤◌, List, [], ◌∷◌, ◌++◌, Option, Some, None, Bool, true, false, refl, sym, ap, ◌∙◌, subst, arith, append_assoc, append-nil}
-use Rattle.pan_base.specs.Events.{Asked, Replied, Event, Ending, Exit, Uncaught, Stopped, Asks, Spent, Stack, Fault, Fails, fits}
+use Rattle.pan_base.specs.Events.{Asked, Foreign, Replied, Event, Ending, Exit, Uncaught, Stopped, Asks, Spent, Stack, Fault, Fails, fits}
 use Rattle.pan_control.specs.World.{World, back_in, leaving}
+use Rattle.pan_control.specs.Memory.{bytes_at}
+use Rattle.pan_control.specs.Runs.{foreign, with_reply, tested_again}
 use Rattle.pan_control.specs.Control.{Outcome, Normal, Broken, Continued, Returned, Raised, Over, Meaning, Callee, and_then, in_turn, with_value, where_true, if_not_zero, spend_of, spend, ask_fit, ask_of, ask, after_body, turn, turns, after_call, call, tail_call, left, on_variables, world_of}
 
 -- the second begins with the first
@@ -263,6 +265,37 @@ module _ (j : ℕ) (later : List Replied) where
           improves = λ v w. then_more (m v w) (m' v (lift w)) (in_turn ms) (in_turn ms') ((b.0).improves v w) rest;
           grows = λ v w. front_trans _ _ _ ((b.0).grows v w) (then_grows (m' v w) (in_turn ms') rest.grows);
         }
+
+    -- a loop's body with the work of the next test
+    pub tested_better : (weight : V → ℕ) (m m' : Meaning G V X) → Better m m' → Better (λ v w. tested_again weight (m v w)) (λ v w. tested_again weight (m' v w))
+    tested_better weight m m' b = record {
+      improves = λ v w. at (m v w) (m' v (lift w)) (b.improves v w);
+      grows = λ v w. subst (IsFront w.trace) (sym (trace (m' v w))) (b.grows v w);
+    }
+      where
+        trace : (o : Outcome G V X) → (world_of (tested_again weight o)).trace ≡ (world_of o).trace
+        trace (Normal v w) = refl
+        trace (Broken v w) = refl
+        trace (Continued v w) = refl
+        trace (Returned x w) = refl
+        trace (Raised i x w) = refl
+        trace (Over e w) = refl
+
+        at : (o o' : Outcome G V X) → More o o' → More (tested_again weight o) (tested_again weight o')
+        at (Normal v w) o' s = ap (tested_again weight) s
+        at (Broken v w) o' s = ap (tested_again weight) s
+        at (Continued v w) o' s = ap (tested_again weight) s
+        at (Returned x w) o' s = ap (tested_again weight) s
+        at (Raised i x w) o' s = ap (tested_again weight) s
+        at (Over e w) o' s = over_on (tested_again weight) (λ e w. refl) (λ o. subst (IsFront (world_of o).trace) (sym (trace o)) (front_refl _)) e w o' s
+
+    pub foreign_better : (i : ℕ) (name : List ℕ) (a l b n : ℕ) → Better (foreign i name a l b n) (foreign i name a l b n)
+    foreign_better i name a l b n = record {
+      improves = λ v w. value_more (bytes_at w.memory a l) w _ _ (λ x. value_more (bytes_at w.memory b n) w _ _ (λ y. ask_more (Foreign i name x y) w _ _ (λ r w. refl) (λ r w. front_refl _)));
+      grows = λ v w.
+          let go = λ (x y : List ℕ). let o : Outcome G V X = ask (Foreign i name x y) w (λ r w. Normal v (record w { memory = with_reply w.memory b r })) in o in
+          value_grows (bytes_at w.memory a l) w (λ x. with_value (bytes_at w.memory b n) w (go x)) (λ x. value_grows (bytes_at w.memory b n) w (go x) (λ y. ask_grows (Foreign i name x y) w _ (λ r w. front_refl _)));
+    }
 
     pub after_call_more : (caller : World G) (o o' : Outcome G (Unit {0}) X) (gave gave' : X → World G → Outcome G V X) (threw threw' : ℕ → X → World G → Outcome G V X) → More o o' → ((x : X) (w : World G) → More (gave x w) (gave' x (lift w))) → ((i : ℕ) (x : X) (w : World G) → More (threw i x w) (threw' i x (lift w))) → ((x : X) (w : World G) → GrowsTo w (gave' x w)) → ((i : ℕ) (x : X) (w : World G) → GrowsTo w (threw' i x w)) → More (after_call caller o gave threw) (after_call (lift caller) o' gave' threw')
     after_call_more caller (Normal v w) o' gave gave' threw threw' s g t gg tg = ap (λ (o : Outcome G (Unit {0}) X). after_call (lift caller) o gave' threw') s

@@ -5,6 +5,7 @@ use Rattle.std.proofs.lemmas.Bool.{and_from}
 use Rattle.std.proofs.lemmas.List.Elements.{recursion_from_All}
 use Rattle.std.proofs.lemmas.List.Folds.{list_all-map}
 use Rattle.pan_base.specs.Tokens.{Placed, Foreign}
+use Rattle.pan_base.specs.Names.{is_foreign_name}
 use Rattle.pan_lexer.specs.TokenRow.{IsSpelled}
 use Rattle.pan_tree.specs.declared.spanned.Spanned.{Spanned}
 use Rattle.pan_tree.specs.declared.syntax.Target.{Target}
@@ -15,7 +16,7 @@ use Rattle.pan_tree.specs.declared.syntax.StmtKind.TheVariants as s
 use Rattle.pan_tree.specs.declared.program.Exception.{Exception}
 use Rattle.pan_tree.specs.declared.program.Function.{Function}
 use Rattle.pan_tree.specs.declared.program.Program.{Program}
-use Rattle.pan_tree.specs.Check.{is_foreign_name, lawful_layer, lawful_kind, HasLawfulNames}
+use Rattle.pan_tree.specs.Check.{lawful_layer, lawful_kind, HasLawfulNames}
 use Rattle.pan_tree.specs.Nodes.{Expr}
 use Rattle.pan_tree.specs.Grammar.{Stmt, Block, Handler, AnExpr, ExprEnd, TwoExprs, AStmt, skip, declaration, declaration_call, assignment, assignment_call, shared_load, call, store_words, store_byte, branch, loop, break, continue, return, tail_call, raise, shared_store, foreign, CallEnd, call_end, MayHandle, no_handler, handler, ABlock, block, Stmts, no_stmt, next_stmt, AFunction, function, Items, no_item, next_exception, next_function, Within, Tree}
 use Rattle.pan_parser.proofs.Tails.{after_expr, after_plain, after_end, after_two, after_params, after_result, after_exception}

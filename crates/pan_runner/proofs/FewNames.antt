@@ -4,7 +4,7 @@ use Rattle.std.specs.Prelude.{◌==◌, codes}
 use Rattle.std.specs.List.{list_all}
 use Rattle.std.specs.Str.{bytes_eq}
 use Rattle.std.proofs.lemmas.Bool.{and_parts, false≢true, eqb-true}
-use Rattle.pan_base.specs.Names.{is_word_byte, is_letter, is_spelled}
+use Rattle.pan_base.specs.Names.{is_word_byte, is_letter, is_spelled, is_foreign_name}
 use Rattle.pan_tree.specs.declared.rule.Rule.{Rule}
 use Rattle.pan_tree.specs.declared.rule.Rule.TheVariants.{NoReturn, NotWord, TooMany}
 use Rattle.pan_tree.specs.declared.spanned.Spanned.{Spanned}
@@ -16,7 +16,7 @@ use Rattle.pan_tree.specs.declared.syntax.StmtKind.{StmtKind, StmtKind-F, fold-r
 use Rattle.pan_tree.specs.declared.syntax.StmtKind.TheOpen as open_stmt
 use Rattle.pan_tree.specs.declared.program.Function.{Function}
 use Rattle.pan_tree.specs.declared.program.Program.{Program}
-use Rattle.pan_tree.specs.Check.{Scope, Context, State, Doing, Break, broken, doing, do_kind, do_layer, in_order, block, body, bodies, names_after, parameters, exception_heads, function_heads, function_of, main_breaks, weight_breaks, with_name, is_too_many, is_foreign_name, breaks_of, judged, has_no_word, closes, foreign_names, IsWellShaped}
+use Rattle.pan_tree.specs.Check.{Scope, Context, State, Doing, Break, broken, doing, do_kind, do_layer, in_order, block, body, bodies, names_after, parameters, exception_heads, function_heads, function_of, main_breaks, weight_breaks, with_name, is_too_many, breaks_of, judged, has_no_word, closes, foreign_names, IsWellShaped}
 use Rattle.pan_runner.specs.View.{is_one_line}
 use Rattle.pan_runner.specs.Runner.{names_in}
 use Rattle.pan_runner.proofs.ResolvedStmts.{statement_induct}

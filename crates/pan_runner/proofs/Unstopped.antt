@@ -4,8 +4,8 @@ use Rattle.std.specs.Prelude.{nat_eq, if◌then◌else◌, slice_get, ◌%◌}
 use Rattle.std.specs.Option.{option_map_or}
 use Rattle.pan_control.specs.Memory.{is_shared, bytes_at, with_byte, with_words}
 use Rattle.pan_control.specs.Control.{if_not_zero}
+use Rattle.pan_control.specs.Runs.{exit_of}
 use Rattle.pan_tree.specs.Value.{Value, word_of, words_in}
-use Rattle.pan_tree.specs.Meaning.{exit_of}
 use Rattle.pan_runner.specs.Slots.{Variables, into_nothing, value, word, values}
 use Rattle.pan_runner.specs.declared.resolved.Stmt.{Stmt, Stmt-F, out-Stmt}
 use Rattle.pan_runner.specs.declared.resolved.Stmt.TheOpen as stmt

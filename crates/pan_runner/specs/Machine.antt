@@ -5,8 +5,8 @@ use Rattle.pan_base.specs.declared.events.Size.{Size}
 use Rattle.pan_base.specs.Events.{Asked, Load, Store, Foreign, Replied, Ending, Uncaught, Fails, Stopped, byte_count, fits}
 use Rattle.pan_control.specs.Memory.{is_shared, bytes_at, with_byte, with_words}
 use Rattle.pan_control.specs.Control.{if_not_zero}
+use Rattle.pan_control.specs.Runs.{exit_of, number, with_reply}
 use Rattle.pan_tree.specs.Value.{Value, Word, word_of, words_in}
-use Rattle.pan_tree.specs.Meaning.{exit_of, number, with_reply}
 use Rattle.pan_runner.specs.Slots.{Variables, assigned, into, into_nothing, value, word, values}
 use Rattle.pan_runner.specs.declared.resolved.Stmt.{Stmt, Stmt-F, out-Stmt}
 use Rattle.pan_runner.specs.declared.resolved.Stmt.TheOpen as stmt

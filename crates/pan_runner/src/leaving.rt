@@ -23,7 +23,7 @@ fn catches(handler: &Handler, exception: usize) -> bool
 }
 
 impl Ending {
-    ghost use Rattle.pan_tree.specs.Meaning.{exit_of};
+    ghost use Rattle.pan_control.specs.Runs.{exit_of};
     ghost use Rattle.pan_tree.specs.Value.{word_of};
     ghost use Rattle.pan_runner.specs.Told.{told};
     ghost use Rattle.pan_runner.specs.View.{ending_of};

@@ -1,6 +1,7 @@
 -- Which statements have lawful names, at some variants.
 use Rattle.std.proofs.Common.{◌≡◌, ℕ, Bool, true, ◌&&◌, List, [], ◌∷◌, map, Some, refl, sym, ap, ◌∙◌}
 use Rattle.std.specs.List.{list_all}
+use Rattle.pan_base.specs.Names.{is_foreign_name}
 use Rattle.pan_tree.specs.declared.spanned.Spanned.{Spanned}
 use Rattle.pan_tree.specs.declared.syntax.ExprKind.{ExprKind}
 use Rattle.pan_tree.specs.declared.syntax.Target.{Target}
@@ -8,7 +9,7 @@ use Rattle.pan_tree.specs.declared.syntax.HandlerOf.{HandlerOf}
 use Rattle.pan_tree.specs.declared.syntax.StmtKind.{StmtKind, StmtKind-F, roll-StmtKind, map-StmtKind}
 use Rattle.pan_tree.specs.declared.syntax.StmtKind.TheOpen as open_stmt
 use Rattle.pan_tree.specs.declared.syntax.StmtKind.TheVariants as s
-use Rattle.pan_tree.specs.Check.{is_foreign_name, lawful_layer, lawful_kind}
+use Rattle.pan_tree.specs.Check.{lawful_layer, lawful_kind}
 use Rattle.pan_shapes.proofs.GoodNames.{lawful_roll}
 
 at_variant : (y : StmtKind-F StmtKind) (x : StmtKind) → roll-StmtKind y ≡ x → lawful_kind x ≡ lawful_layer (map-StmtKind StmtKind Bool lawful_kind y)

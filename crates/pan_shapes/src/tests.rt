@@ -2,7 +2,8 @@
 
 ghost use Rattle.std.specs.Prelude.{◌≡◌, IsTrue, IfOk};
 ghost use Rattle.std.specs.List.{list_all};
-ghost use Rattle.pan_tree.specs.Check.{HasLawfulNames, is_foreign_name, lawful_kind};
+ghost use Rattle.pan_base.specs.Names.{is_foreign_name};
+ghost use Rattle.pan_tree.specs.Check.{HasLawfulNames, lawful_kind};
 
 use crate::{CheckError, Rule, check};
 use pan_base::{Boxed, List, NoMemory, Span, Text, single};

@@ -1,0 +1,18 @@
+-- How much the stages above instructions count as done. A step is worth so many instructions and so many bytes of code that each
+-- later stage does with them what it makes of the step, with every variable in memory.
+use Rattle.std.specs.Prelude.{ℕ, ◌*◌}
+use Rattle.pan_control.specs.World.{World, tolled}
+
+abbrev pub instructions_in_step : ℕ
+instructions_in_step = 16
+
+abbrev pub bytes_in_step : ℕ
+bytes_in_step = 64
+
+-- what a call, an entry, a return or a raise is worth beside the words that pass
+abbrev pub passing_steps : ℕ
+passing_steps = 8
+
+-- so many steps are done
+abbrev pub stepped : {G : Type 0} → ℕ → World G → World G
+stepped n w = tolled (instructions_in_step * n) w
