@@ -1,20 +1,14 @@
 -- From the forward direction to all of the agreement: a law of any source and any machine whose longer runs go on from the shorter ones.
-use Rattle.std.proofs.Common.{◌≡◌, ◌≢◌, ℕ, ◌+◌, ◌-◌, ◌≤◌, ◌<◌, sym, ap, ◌∙◌, subst, List, [], ◌++◌, append_assoc, arith, inl, inr}
+use Rattle.std.proofs.Common.{◌≡◌, ◌≢◌, ℕ, ◌+◌, ◌-◌, ◌≤◌, ◌<◌, sym, ap, ◌∙◌, subst, arith, inl, inr}
 use Rattle.std.specs.Prelude.{◌⊎◌, IsTrue}
-use Rattle.std.proofs.lemmas.List.{append-nil}
 use Rattle.std.proofs.lemmas.Bool.{false≢true}
-use Rattle.pan_base.specs.Events.{Event, Ending, Spent, Stack, Fails, Behaviour, IsPrefix}
+use Rattle.pan_base.specs.Events.{Ending, Spent, Stack, Fails, Behaviour, IsPrefix}
+use Rattle.pan_base.proofs.PrefixLaws.{prefix_refl, prefix_trans}
 use Rattle.pan_control.specs.Seen.{Seen}
 use Rattle.pan_agree.specs.Agree.{is_real, Overflows, DoesNoMore, Agree}
 use Rattle.pan_tree.specs.Ends.{IsSourceLike}
 use Rattle.riscv_isa.specs.Running.{IsSteady}
 use Rattle.pan_agree.specs.Laws.{DoesInTime, ForwardInTime, ForwardWithin}
-
-pub prefix_refl : (xs : List Event) → IsPrefix xs xs
-prefix_refl xs = record { rest = []; all = sym (append-nil xs) }
-
-prefix_trans : (xs ys zs : List Event) → IsPrefix xs ys → IsPrefix ys zs → IsPrefix xs zs
-prefix_trans xs ys zs p q = record { rest = p.rest ++ q.rest; all = q.all ∙ ap (λ t. t ++ q.rest) p.all ∙ append_assoc xs p.rest q.rest }
 
 -- how one run stands to another of the same machine
 data Stands (a b : Behaviour) (k l : ℕ) : Type 0 where

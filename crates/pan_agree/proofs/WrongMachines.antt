@@ -4,7 +4,7 @@ use Rattle.std.proofs.lemmas.Bool.{false≢true}
 use Rattle.pan_base.specs.Events.{Event, Exit, Spent, Stack, Fault, Behaviour, only}
 use Rattle.pan_agree.specs.Agree.{Overflows, DoesNoMore, NeverFails, Agree}
 use Rattle.pan_agree.specs.Samples.{loops, exits, at_once}
-use Rattle.pan_agree.proofs.BothWays.{prefix_refl}
+use Rattle.pan_base.proofs.PrefixLaws.{prefix_refl}
 
 never_fails : NeverFails loops
 never_fails n e = cc

@@ -238,16 +238,16 @@ number_is_small B4 bytes at small = rw (row_of_4 bytes at) (omega (arith, small 
 number_is_small B8 bytes at small =
     rw (row_of_8 bytes at) (omega (arith, small at, small (at + 1), small (at + 2), small (at + 3), small (at + 4), small (at + 5), small (at + 6), small (at + 7)))
 
-small_append : (xs ys : List ℕ) → IsBytes xs → IsBytes ys → IsBytes (xs ++ ys)
+pub small_append : (xs ys : List ℕ) → IsBytes xs → IsBytes ys → IsBytes (xs ++ ys)
 small_append [] ys p q = q
 small_append (x ∷ xs) ys p q = elim [ zero ↦ p 0 | suc i ↦ small_append xs ys (λ i. p (suc i)) q i ]
 
-small_take : (k : ℕ) (xs : List ℕ) → IsBytes xs → IsBytes (take k xs)
+pub small_take : (k : ℕ) (xs : List ℕ) → IsBytes xs → IsBytes (take k xs)
 small_take zero xs p = λ i. omega arith
 small_take (suc k) [] p = p
 small_take (suc k) (x ∷ xs) p = elim [ zero ↦ p 0 | suc i ↦ small_take k xs (λ i. p (suc i)) i ]
 
-small_drop : (k : ℕ) (xs : List ℕ) → IsBytes xs → IsBytes (drop k xs)
+pub small_drop : (k : ℕ) (xs : List ℕ) → IsBytes xs → IsBytes (drop k xs)
 small_drop zero xs p = p
 small_drop (suc k) [] p = p
 small_drop (suc k) (x ∷ xs) p = small_drop k xs (λ i. p (suc i))

@@ -1,6 +1,6 @@
 //! Laws of the definitions, on calls that do nothing.
 
-ghost use Rattle.std.specs.Prelude.{◌≡◌, ℕ, List, ◌+◌, ◌*◌, ◌%◌, ◌^◌, ◌≤◌, ◌<◌, ◌⊎◌, [], ◌++◌, length};
+ghost use Rattle.std.specs.Prelude.{◌≡◌, ℕ, List, ◌+◌, ◌*◌, ◌%◌, ◌^◌, ◌≤◌, ◌<◌, ◌⊎◌, [], ◌++◌, length, take, drop};
 ghost use Rattle.pan_base.specs.Bytes.{number_at, with_number, number_of_bytes, with_bytes_of};
 ghost use Rattle.pan_base.specs.Events.{Event, IsPrefix, byte_count};
 ghost use Rattle.pan_base.specs.Sinks.{SinkState, Took, TookFront};
@@ -25,6 +25,13 @@ pub fn numbers_in_bytes()
         → number_at size bytes at ≡ number_of_bytes (byte_count size) bytes at }
     ensures written_by_bytes { (size : Size) (bytes : List ℕ) (at n : ℕ) → at + byte_count size ≤ length bytes
         → with_number size bytes at n ≡ with_bytes_of (byte_count size) bytes at n }
+{}
+
+/// Fronts and rests of rows of bytes are bytes, and so is one row after another.
+pub fn rows_of_bytes()
+    ensures front { (n : ℕ) (bytes : List ℕ) → IsBytes bytes → IsBytes (take n bytes) }
+    ensures rest { (n : ℕ) (bytes : List ℕ) → IsBytes bytes → IsBytes (drop n bytes) }
+    ensures joined { (first second : List ℕ) → IsBytes first → IsBytes second → IsBytes (first ++ second) }
 {}
 
 /// Each trace is a prefix of itself, and a prefix of a prefix is a prefix.

@@ -27,7 +27,7 @@ pub use error::NoMemory;
 pub use events::{End, Reply, Request, Size, fits};
 pub use file_error::FileError;
 pub use files::Workspace;
-pub use laws::{numbers_in_bytes, prefixes, sinks_go_on};
+pub use laws::{numbers_in_bytes, prefixes, rows_of_bytes, sinks_go_on};
 pub use line_count::LineCount;
 pub use lists::single;
 pub use memory_files::{Failing, MemFiles};

@@ -3,13 +3,14 @@ use Rattle.std.proofs.Common.{ℕ, zero, suc, ◌*◌, ◌%◌, ◌^◌, List, [
 use Rattle.std.specs.Prelude.{nat_eq, if◌then◌else◌, slice_get, drop, codes}
 use Rattle.std.specs.Option.{option_map_or}
 use Rattle.pan_base.specs.Events.{Load, Store, Foreign, Replied, byte_count}
-use Rattle.pan_control.specs.World.{World, entered, tolled}
+use Rattle.pan_control.specs.World.{entered, tolled}
 use Rattle.pan_control.specs.Memory.{is_shared, bytes_at, with_byte, with_words}
-use Rattle.pan_control.specs.Control.{Outcome, Normal, Broken, Continued, Returned, Raised, Over, Callee, with_value, call}
-use Rattle.pan_control.proofs.Ends.{IsHigh, EndsHigh, RunsHigh, CallsHigh, AllHigh, failed, spent, in_turn_high, value_high, where_high, choice_high, ask_high, turns_high, call_high, tail_high, left_high, on_high}
+use Rattle.pan_control.specs.Control.{Normal, Broken, Continued, Returned, Raised, Over, with_value, call}
+use Rattle.pan_control.proofs.Ends.{IsHigh, EndsHigh, RunsHigh, CallsHigh, AllHigh, tested_high, foreign_high, nested_high, seen_high, in_turn_high, value_high, where_high, choice_high, ask_high, turns_high, call_high, tail_high, left_high, on_high}
+use Rattle.pan_tree.specs.Running.{World, Outcome, Callee}
 use Rattle.pan_tree.specs.Value.{Value, word_of, words_in}
 use Rattle.pan_tree.specs.Check.{cost, function_of, result_of}
-use Rattle.pan_tree.specs.Meaning.{Does, Scope, Scopes, scoped, into, into_nothing, caught, foreign, tested_again, expr_weight, own_weight, act_layer, run_layer, run_kind, value, values, word, function_index, exception_index, foreign_index, parameters, entry_weight, body_of, calls, seen, exit_of, source, start}
+use Rattle.pan_tree.specs.Meaning.{Does, Scope, Scopes, scoped, into, into_nothing, caught, expr_weight, own_weight, act_layer, run_layer, run_kind, value, values, word, function_index, exception_index, foreign_index, parameters, entry_weight, body_of, enter, calls, source, start}
 use Rattle.pan_tree.specs.Ends.{IsSourceLike}
 use Rattle.pan_tree.specs.declared.spanned.Spanned.{Spanned}
 use Rattle.pan_tree.specs.declared.syntax.ExprKind.{ExprKind}
@@ -22,20 +23,9 @@ use Rattle.pan_tree.specs.declared.program.Program.{Program}
 use Rattle.pan_tree.specs.declared.program.Function.{Function}
 use Rattle.pan_tree.proofs.MeaningLayers.{by_layers, run_roll}
 
-tested_high : (weight : Scopes → ℕ) (o : Outcome Scopes Value) → EndsHigh o → EndsHigh (tested_again weight o)
-tested_high weight (Normal v w) h = record { over = tt }
-tested_high weight (Broken v w) h = record { over = tt }
-tested_high weight (Continued v w) h = record { over = tt }
-tested_high weight (Returned x w) h = record { over = tt }
-tested_high weight (Raised i x w) h = record { over = tt }
-tested_high weight (Over e w) h = record { over = h.over }
-
 if_high : (b : Bool) (o r : Outcome Scopes Value) → EndsHigh o → EndsHigh r → EndsHigh (if b then o else r)
 if_high true o r h k = h
 if_high false o r h k = k
-
-foreign_high : (i : ℕ) (name : List ℕ) (a l b n : ℕ) → RunsHigh (foreign i name a l b n)
-foreign_high i name a l b n v w = value_high (bytes_at w.memory a l) w _ (λ x. value_high (bytes_at w.memory b n) w _ (λ y. ask_high (Foreign i name x y) w _ (λ r w. record { over = tt })))
 
 module _ (p : Program) (d : ℕ) (c : Callee (List Value) Value) (hc : CallsHigh c) where
   -- no run of the statement ends in a fault or for want of a stack
@@ -118,23 +108,10 @@ module _ (p : Program) (d : ℕ) (c : Callee (List Value) Value) (hc : CallsHigh
       value_high (parameters f.params xs) w _ (λ scope. left_high (Unit {0}) _ (in_turn_high _ (each_high (f.body).stmts) (scope ∷ []) (entered (cost p f) (tolled (entry_weight f) w))))
 
 calls_high : (p : Program) (d : ℕ) → CallsHigh (calls p d)
-calls_high p zero f xs w = record { over = spent }
-calls_high p (suc d) f xs w = value_high (slice_get p.functions f) w _ (λ g. function_high p d (calls p d) (calls_high p d) g xs w)
-
-exit_high : (o : Option ℕ) → IsHigh (exit_of o)
-exit_high None = failed
-exit_high (Some n) = record { no_fault = λ e. cc; no_stack = λ e. cc }
-
-seen_high : (o : Outcome (Unit {0}) Value) → EndsHigh o → IsHigh (((seen o).behaviour).ending)
-seen_high (Normal v w) h = failed
-seen_high (Broken v w) h = failed
-seen_high (Continued v w) h = failed
-seen_high (Returned x w) h = exit_high (word_of x)
-seen_high (Raised i x w) h = record { no_fault = λ e. cc; no_stack = λ e. cc }
-seen_high (Over e w) h = h.over
+calls_high p = nested_high (enter p) (λ d c hc f xs w. value_high (slice_get p.functions f) w _ (λ g. function_high p d c hc g xs w))
 
 source_high : (p : Program) (m : List ℕ) (r : List Replied) (n : ℕ) → IsHigh (((source p m r n).behaviour).ending)
-source_high p m r n = seen_high _ (value_high (function_index (codes "main") p) (start m r n) _ (λ f. calls_high p (suc n) f [] (start m r n)))
+source_high p m r n = seen_high word_of _ (value_high (function_index (codes "main") p) (start m r n) _ (λ f. calls_high p (suc n) f [] (start m r n)))
 
 pub source_like : (p : Program) (m : List ℕ) (r : List Replied) → IsSourceLike (source p m r)
 source_like p m r = record { no_fault = λ n. (source_high p m r n).no_fault; no_stack = λ n. (source_high p m r n).no_stack }

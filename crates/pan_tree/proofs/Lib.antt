@@ -3,3 +3,5 @@ pub mod MeaningLayers
 pub mod OwnWeights
 pub mod GoesOn
 pub mod Ends
+pub mod InOrder
+pub mod SourceOrder

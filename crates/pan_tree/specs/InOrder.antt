@@ -1,7 +1,6 @@
--- What holds of a run as a function of its replies, of a source with some fuel or of a machine with some steps.
-use Rattle.std.specs.Prelude.{◌≡◌, ◌≢◌, List, [], ◌∷◌, ◌++◌}
+-- Runs that take their replies in order, of a source with some fuel or of a machine with some steps.
+use Rattle.std.specs.Prelude.{◌≡◌, ◌≢◌, List, [], ◌∷◌, ◌++◌, map}
 use Rattle.pan_base.specs.Events.{Asked, Replied, Ending, Exit, Uncaught, Stopped, Asks, Spent, Stack, Fault, Fails, Behaviour, fits}
-use Rattle.pan_port.specs.Drive.{replies_of}
 use Rattle.pan_tree.specs.GoesOn.{AnsweredBy}
 
 -- what may be left of the replies: none where the run asks, and the reply that didn't fit where it was stopped
@@ -18,11 +17,11 @@ Left Fails left = Unit {0}
 -- the replies are those of the events, and what is left
 pub record Uses (replies : List Replied) (b : Behaviour) : Type 0 where
   pub left : List Replied
-  pub all : replies ≡ replies_of b.events ++ left
+  pub all : replies ≡ map (λ e. e.reply) b.events ++ left
   pub ends : Left b.ending left
 
 -- A run takes its replies in order. What stands behind those that it took makes no difference, but where it asks: there the next one is its answer.
-pub record IsRun (run : List Replied → Behaviour) : Type 0 where
+pub record TakesInOrder (run : List Replied → Behaviour) : Type 0 where
   pub uses : (replies : List Replied) → Uses replies (run replies)
   pub stays : (replies later : List Replied) → ((q : Asked) → (run replies).ending ≢ Asks q) → run (replies ++ later) ≡ run replies
   pub answered : (replies : List Replied) (r : Replied) (later : List Replied) (q : Asked) → (run replies).ending ≡ Asks q → AnsweredBy (fits q r) q r (run replies) (run (replies ++ r ∷ later))
