@@ -1,5 +1,6 @@
 use Rattle.std.proofs.Common.{rules, ◌≡◌, ℕ, List, None, inl, inr}
 use Rattle.pan_tree.specs.declared.program.Program.{Program}
+use Rattle.riscv_isa.specs.Image.{ImageParts}
 use Rattle.pan_agree.specs.Faithful.{Faithful}
 use Rattle.pan_base.specs.Causes.{Rose}
 use Rattle.pan_base.specs.Sinks.{Took, TookFront}
@@ -18,7 +19,7 @@ returns-in-Ok-build g c =
     let image : List ℕ = c.as_slice-in-Ok-build.result.now in
     let q = c.in-Ok.ensures in
     let held : Holds (g.W.Workspace.state c.args.files.now).files c.args.source.now bytes = rw c.as_slice.ensures q.1.0 in
-    let built : (program : Program) × IsServed bytes program × Faithful program image None = rw c.as_slice-in-Ok-build.ensures c.in-Ok-build.ensures.built in
+    let built : (program : Program) × IsServed bytes program × (parts : ImageParts) × Faithful program image parts × (parts.bound ≡ None) = rw c.as_slice-in-Ok-build.ensures c.in-Ok-build.ensures.built in
     let accepted : (e : BuildError) → ¬ IsRefusedFor bytes e = λ e h. no_error NoMemory e _ (c.in-Ok-build.ensures.exact e h) in
     compile_ends (outside (g.W.Workspace.state c.args.files.now) (g.O.Sink.state c.args.out.now)) (outside (g.W.Workspace.state c.read_file.new.files) (g.O.Sink.state c.read_file.new.out)) _ c.args.source.now c.args.image.now bytes image held built accepted q.0 q.1.1.writes q.1.1.out c.store.result c.store.ensures
 
