@@ -1,8 +1,7 @@
 -- How `compile` ends: by its status, and where no fault of the outside came.
-use Rattle.std.proofs.Common.{◌≡◌, ℕ, List, Option, Some, None, refl, sym, subst, inl, inr}
+use Rattle.std.proofs.Common.{◌≡◌, ℕ, List, Some, None, refl, sym, subst, inl, inr}
 use Rattle.std.specs.Prelude.{◌⊎◌}
 use Rattle.pan_base.specs.Files.{Files}
-use Rattle.pan_base.specs.declared.events.End.{End}
 use Rattle.pan_tree.specs.declared.program.Program.{Program}
 use Rattle.pan_command.specs.declared.status.Status.{Status}
 use Rattle.pan_command.specs.declared.status.Status.TheVariants as status

@@ -1,5 +1,5 @@
 -- The promises of each action, from how it ended.
-use Rattle.std.proofs.Common.{◌≡◌, ℕ, List, refl}
+use Rattle.std.proofs.Common.{ℕ, List, refl}
 use Rattle.command_words.specs.declared.order.Options.{Options}
 use Rattle.pan_command.specs.declared.status.Status.{Status}
 use Rattle.pan_command.specs.Status.{code}

@@ -1,5 +1,5 @@
 -- How a run by the meaning ends after its source was read, and after its script was.
-use Rattle.std.proofs.Common.{◌≡◌, ℕ, List, [], Err, subst, inl, inr}
+use Rattle.std.proofs.Common.{ℕ, List, [], Err, subst, inl, inr}
 use Rattle.pan_base.specs.Files.{NoneChanged}
 use Rattle.pan_base.specs.Sinks.{SinkState, Took, TookFront}
 use Rattle.command_words.specs.declared.order.Options.{Options}

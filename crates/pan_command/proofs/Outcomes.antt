@@ -1,6 +1,5 @@
 -- What a run puts, said of a behaviour that is the same.
-use Rattle.std.proofs.Common.{◌≡◌, ℕ, sym, ◌∙◌, subst, List, inl, inr, Bool, true, false}
-use Rattle.std.specs.Prelude.{◌⊎◌}
+use Rattle.std.proofs.Common.{◌≡◌, ℕ, sym, ◌∙◌, subst, List, inl, inr, Bool, true}
 use Rattle.std.proofs.lemmas.Bool.{false≢true}
 use Rattle.pan_base.specs.Events.{Replied, Event, Behaviour, IsPrefix}
 use Rattle.pan_base.specs.Sinks.{SinkState, Took, TookFront}

@@ -1,8 +1,8 @@
 -- What a run over a script puts, by how it was driven.
-use Rattle.std.proofs.Common.{◌≡◌, ℕ, ◌+◌, ◌-◌, ◌≤◌, sym, ap, ◌∙◌, subst, List, [], ◌∷◌, ◌++◌, append_assoc, map, refl, inl, inr, None, arith}
+use Rattle.std.proofs.Common.{◌≡◌, ℕ, ◌+◌, ◌-◌, ◌≤◌, sym, ap, ◌∙◌, subst, List, [], ◌∷◌, ◌++◌, append_assoc, refl, None, arith}
 use Rattle.std.proofs.lemmas.List.{append-nil}
 use Rattle.std.proofs.lemmas.List.Concat.{flat_map-append}
-use Rattle.pan_base.specs.Events.{Asked, Replied, Event, Behaviour, before, IsPrefix, end_of}
+use Rattle.pan_base.specs.Events.{Asked, Replied, Event, Behaviour, before}
 use Rattle.pan_base.specs.Sinks.{SinkState, Took, TookFront}
 use Rattle.pan_base.specs.Trace.{event_line, trace_text, end_line}
 use Rattle.pan_base.specs.declared.events.End.{End}
@@ -12,7 +12,7 @@ use Rattle.pan_port.specs.Drive.{replies_of, after, Answered, AreGiven, Drove, U
 use Rattle.device_script.specs.Device.{DeviceState, Steps}
 use Rattle.device_script.specs.Script.{Content}
 use Rattle.device_script.specs.Runs.{device}
-use Rattle.pan_command.specs.Playing.{Goes, Plays, Begins, text_of, Played, Broken}
+use Rattle.pan_command.specs.Playing.{Plays, text_of, Played, Broken}
 
 -- what is known of sinks: texts are put one after another, and a front of a text after others
 pub record SinksGoOn : Type 0 where

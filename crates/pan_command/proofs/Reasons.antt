@@ -11,7 +11,7 @@ use Rattle.pan_command.specs.Inner.{of_source}
 use Rattle.pan_command.specs.Served.{IsServed, IsUnsupported, IsRefusedFor}
 use Rattle.pan_command.specs.declared.error.BuildError.{BuildError}
 use Rattle.pan_command.specs.declared.error.BuildError.TheVariants.{Source, Unsupported, NoMemory}
-use Rattle.pan_command.proofs.Results.{Gives, no_error, same_value, no_value}
+use Rattle.pan_command.proofs.Results.{Gives, no_error, same_value}
 
 -- a reason that is handed on
 pub refusal_so : (bytes : List ℕ) (f : SourceError) → (f ≡ wrong.NoMemory) ⊎ Unchecked bytes f → (of_source f ≡ NoMemory) ⊎ IsRefusedFor bytes (of_source f)

@@ -17,7 +17,6 @@ use Rattle.pan_command.specs.Compile.{CompileRefused}
 use Rattle.pan_command.specs.Check.{Unpassed}
 use Rattle.pan_command.specs.Reading.{IsImage, IsSource}
 use Rattle.pan_command.specs.Run.{NoImage, image_line}
-use Rattle.pan_command.proofs.Reasons.{starved_so}
 use Rattle.pan_command.proofs.Results.{Gives, no_error, same_value, no_value, same_error, not_memory}
 
 -- the source was not compiled

@@ -11,7 +11,7 @@ use Rattle.pan_command.specs.declared.status.Status.{Status}
 use Rattle.pan_command.specs.declared.status.Status.TheVariants as status
 use Rattle.pan_command.specs.Status.{code, end_code}
 use Rattle.pan_command.specs.Outside.{Call, NoFileChanged, IsPut, WriteFailed, PutFailed}
-use Rattle.pan_command.specs.Command.{AreWordsOf, AreUnlawful, UsageEnds, ActionEnds, WordsStarved, Ends}
+use Rattle.pan_command.specs.Command.{AreWordsOf, AreUnlawful, UsageEnds, ActionEnds, Ends}
 
 module _ (words : List (List ℕ)) (call : Call) where
   starved_in : (a : Action) (options : Options) → NoFileChanged call → IsPut call [] → ActionEnds a options call status.NoMemory

@@ -1,5 +1,5 @@
 -- The outside of a call, as it tells of itself.
-use Rattle.std.specs.Prelude.{◌≡◌, ◌≤◌, ℕ, List, Option, Some, None}
+use Rattle.std.specs.Prelude.{◌≡◌, ℕ, List, Option, Some, None}
 use Rattle.pan_base.specs.Causes.{Rose}
 use Rattle.pan_base.specs.Files.{Files, FilesState, NoneChanged}
 use Rattle.pan_base.specs.Sinks.{SinkState, Took, TookFront}

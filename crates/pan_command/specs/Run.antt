@@ -1,5 +1,5 @@
 -- What the action `run` leaves, by how it ends.
-use Rattle.std.specs.Prelude.{◌≡◌, ◌⊎◌, ℕ, List, [], ◌++◌, Option, Some, Ok, Err, codes}
+use Rattle.std.specs.Prelude.{◌≡◌, ◌⊎◌, ℕ, List, [], ◌++◌, Some, codes}
 use Rattle.std.specs.Fmt.{decimal}
 use Rattle.riscv_isa.specs.Image.{ImageParts, ImageOf}
 use Rattle.riscv_isa.specs.Machine.{machine}
