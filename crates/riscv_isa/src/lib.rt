@@ -15,6 +15,7 @@ mod known_words;
 mod laws;
 mod pending;
 mod place;
+mod spelled;
 mod words;
 
 pub use code::{Code, Names};
@@ -27,4 +28,5 @@ pub use laws::{
 };
 pub use pending::{Buffer, Pending};
 pub use place::{Place, Region};
+pub use spelled::spelled_code;
 pub use words::spell;

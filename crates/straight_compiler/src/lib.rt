@@ -8,6 +8,5 @@ mod generating;
 mod layout;
 #[cfg(test)]
 mod tests;
-mod words;
 
 pub use compiling::compile;
