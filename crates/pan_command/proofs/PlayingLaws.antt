@@ -32,7 +32,7 @@ answered_more (e ∷ events) old mid new q r all given = (all.0, all.1, answered
 
 -- ---- the run came to an end
 
-module _ (on : SinksGoOn) (a a' : Meaning) (script : Content) (d d' : DeviceState) (was now : SinkState) (steps : ℕ) (end : End) (is : d ≡ device script) (fresh : a.ended ≡ None)
+module _ (sinks : SinksGoOn) (a a' : Meaning) (script : Content) (d d' : DeviceState) (was now : SinkState) (steps : ℕ) (end : End) (is : d ≡ device script) (fresh : a.ended ≡ None)
     (ran : Drove Steps (λ s. s.stops) (λ s. s.silences) a a' d d' was now steps end) where
   plays : Plays a.go script steps (a.go ran.replies steps)
   plays = record {
@@ -50,7 +50,7 @@ module _ (on : SinksGoOn) (a a' : Meaning) (script : Content) (d d' : DeviceStat
     run = a.go ran.replies steps;
     plays = plays;
     ends = ran.ends;
-    text = subst (Took was new) (sym text_is) (on.more was now new _ _ ran.took line);
+    text = subst (Took was new) (sym text_is) (sinks.more was now new _ _ ran.took line);
   }
 
   pub played_in_part : (new : SinkState) → TookFront now new (end_line end) → Played (TookFront was new) a.go script steps end
@@ -58,12 +58,12 @@ module _ (on : SinksGoOn) (a a' : Meaning) (script : Content) (d d' : DeviceStat
     run = a.go ran.replies steps;
     plays = plays;
     ends = ran.ends;
-    text = on.front was now new _ (end_line end) [] _ ran.took line (text_is ∙ ap (λ t. trace_text (a.go ran.replies steps).events ++ t) (sym (append-nil (end_line end))));
+    text = sinks.front was now new _ (end_line end) [] _ ran.took line (text_is ∙ ap (λ t. trace_text (a.go ran.replies steps).events ++ t) (sym (append-nil (end_line end))));
   }
 
 -- ---- the run was broken off
 
-module _ (on : SinksGoOn) (a a' : Meaning) (script : Content) (d d' : DeviceState) (was now : SinkState) (steps : ℕ) (is : d ≡ device script) where
+module _ (sinks : SinksGoOn) (a a' : Meaning) (script : Content) (d d' : DeviceState) (was now : SinkState) (steps : ℕ) (is : d ≡ device script) where
   -- the sink failed at the line of an event
   pub broken_at_line : Unwritten Steps a a' d d' was now steps → Broken (TookFront was now) a.go script steps
   broken_at_line u =
@@ -86,7 +86,7 @@ module _ (on : SinksGoOn) (a a' : Meaning) (script : Content) (d d' : DeviceStat
           given = subst (λ s. Answered Steps s events d') is (answered_more u.events d u.mid d' u.request u.reply (u.did).answered u.given);
           first = record { rest = (on.0).events; all = first };
         };
-        text = on.front was u.put now (trace_text u.events) (event_line u.request u.reply) [] (trace_text events) (u.did).took u.front text;
+        text = sinks.front was u.put now (trace_text u.events) (event_line u.request u.reply) [] (trace_text events) (u.did).took u.front text;
       }
 
   -- the asker found no memory
