@@ -1,5 +1,5 @@
 -- What the writing of a faithful image leaves, after the source was read.
-use Rattle.std.proofs.Common.{◌≡◌, ℕ, ◌<◌, List, take, Option, Some, None, refl, ◌∙◌, subst, inl, inr}
+use Rattle.std.proofs.Common.{◌≡◌, ℕ, ◌<◌, List, take, Option, Some, None, ◌∙◌, subst, inl, inr}
 use Rattle.std.specs.Prelude.{◌⊎◌}
 use Rattle.pan_base.specs.Causes.{Rose}
 use Rattle.pan_base.specs.Files.{Files, NoneChanged, Stored, StoredBelow}

@@ -21,7 +21,7 @@ returns-in-Ok-build g c =
     let held : Holds (g.W.Workspace.state c.args.files.now).files c.args.source.now bytes = rw c.as_slice.ensures q.1.0 in
     let built : (program : Program) × IsServed bytes program × (parts : ImageParts) × Faithful program image parts × (parts.bound ≡ None) = rw c.as_slice-in-Ok-build.ensures c.in-Ok-build.ensures.built in
     let accepted : (e : BuildError) → ¬ IsRefusedFor bytes e = λ e h. no_error NoMemory e _ (c.in-Ok-build.ensures.exact e h) in
-    compile_ends (outside (g.W.Workspace.state c.args.files.now) (g.O.Sink.state c.args.out.now)) (outside (g.W.Workspace.state c.read_file.new.files) (g.O.Sink.state c.read_file.new.out)) _ c.args.source.now c.args.image.now bytes image held built accepted q.0 q.1.1.writes q.1.1.out c.store.result c.store.ensures
+    compile_ends (outside (g.W.Workspace.state c.args.files.now) (g.O.Sink.state c.args.out.now)) (outside (g.W.Workspace.state c.read_file.new.files) (g.O.Sink.state c.read_file.new.out)) (outside (g.W.Workspace.state c.store.new.files) (g.O.Sink.state c.store.new.out)) c.args.source.now c.args.image.now bytes image held built accepted q.0 q.1.1.writes q.1.1.out c.store.result c.store.ensures
 
 pub returns-in-Ok-put_source_line : goal.returns-in-Ok-put_source_line
 returns-in-Ok-put_source_line g c =
