@@ -17,5 +17,5 @@ mod tests;
 mod text;
 
 pub use error::ParseError;
-pub use laws::one_tree;
+pub use laws::{one_answer, one_tree};
 pub use parsing::parse;
