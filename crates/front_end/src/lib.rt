@@ -4,8 +4,6 @@
 mod error;
 mod laws;
 mod reading;
-#[cfg(test)]
-mod tests;
 
 pub use error::SourceError;
 pub use laws::one_reading;

@@ -1,6 +1,9 @@
 -- Lawful names.
-use Rattle.std.proofs.Common.{◌≡◌, ℕ, ◌≤◌, Bool, true, false, ◌&&◌, ◌||◌, not, List, [], ◌∷◌, ◌++◌, length, leb, All, IsTrue, refl, sym, ◌∙◌}
+use Rattle.std.proofs.Common.{◌≡◌, ℕ, ◌+◌, ◌-◌, ◌*◌, ◌^◌, ◌<◌, ◌≤◌, Bool, true, false, ◌&&◌, ◌||◌, not, List, [], ◌∷◌, ◌++◌, length, leb, All, IsTrue, Option, refl, sym, ap, ◌∙◌, arith}
+use Rattle.std.specs.Int.{w16, to_le_bytes}
 use Rattle.std.specs.List.{list_any, AllByRecursion}
+use Rattle.std.specs.Option.{ForSome}
+use Rattle.std.proofs.lemmas.List.{length-append}
 use Rattle.std.specs.Str.{bytes_eq}
 use Rattle.std.specs.Bool.{one_answer}
 use Rattle.std.proofs.lemmas.Slice.Eq.{bytes_eq-Decides}
@@ -8,7 +11,7 @@ use Rattle.std.proofs.lemmas.List.Folds.{list_any-append}
 use Rattle.std.proofs.lemmas.Bool.{and_parts, leb-true}
 use Rattle.std.proofs.lemmas.List.Elements.{All-from_recursion}
 use Rattle.pan_base.specs.Names.{is_foreign_name, is_short_foreign_name}
-use Rattle.riscv_isa.specs.Image.{are_foreign_names}
+use Rattle.riscv_isa.specs.Image.{IsLawfulImage, IsLawfulCode, AreLawfulNames, are_foreign_names, names_part}
 
 pub name_is_short : (name : List ℕ) → is_short_foreign_name name ≡ true → length name ≤ 64
 name_is_short name h = leb-true (length name) 64 (and_parts (is_foreign_name name) (leb (length name) 64) h).1
@@ -32,6 +35,28 @@ each_is_short (name ∷ names) h =
 
 pub names_are_short : (names : List (List ℕ)) → IsTrue (are_foreign_names names) → All (λ name. length name ≤ 64) names
 names_are_short names h = All-from_recursion (λ name. length name ≤ 64) names (each_is_short names h)
+
+-- a name takes at most 66 bytes of the names part
+part_is_short : (names : List (List ℕ)) → AllByRecursion (λ name. length name ≤ 64) names → length (names_part names) ≤ 66 * length names
+part_is_short [] h = omega arith
+part_is_short (name ∷ names) h =
+    let first : length name ≤ 64 = h.0 in
+    let rest = part_is_short names h.1 in
+    let part : length (names_part (name ∷ names)) ≡ 2 + length name + length (names_part names) =
+        length-append (to_le_bytes w16 (length name) ++ name) (names_part names) ∙ ap (λ n. n + length (names_part names)) (length-append (to_le_bytes w16 (length name)) name) in
+    omega arith
+
+pub lawful_image : (code : List ℕ) (names : List (List ℕ)) (bound : Option ℕ) → IsLawfulCode code → AreLawfulNames names → ForSome bound (λ n. n < 2 ^ 64 - 1)
+    → IsLawfulImage (record { code = code; names = names; bound = bound })
+lawful_image code names bound c n bounded = record {
+  whole = c.whole;
+  most = c.most;
+  bytes = c.bytes;
+  named = n.named;
+  count = n.count;
+  part = let h = n.count in let k = part_is_short names (each_is_short names n.named) in omega arith;
+  bounded = bounded;
+}
 
 -- ---- one name more
 

@@ -1,8 +1,9 @@
 //! Laws of images.
 
-ghost use Rattle.std.specs.Prelude.{◌≡◌, ◌⊎◌, ◌↔◌, ℕ, List, None, Ok, Err};
+ghost use Rattle.std.specs.Prelude.{◌≡◌, ◌⊎◌, ◌↔◌, ◌-◌, ◌^◌, ◌<◌, ℕ, List, None, Ok, Err};
+ghost use Rattle.std.specs.Option.{ForSome};
 ghost use Rattle.pan_base.specs.Words.{IsBytes};
-ghost use Rattle.riscv_isa.specs.Image.{ImageParts, ImageOf, IsLawfulImage};
+ghost use Rattle.riscv_isa.specs.Image.{ImageParts, ImageOf};
 ghost use Rattle.image_file.specs.Faults.{fault_of};
 ghost use Rattle.image_file.specs.Parts.{parts_of};
 
@@ -26,7 +27,7 @@ pub fn read_written(
     names: &Names,
     bound: Option<u64>,
 ) -> Result<Image, ImageError>
-    requires { IsLawfulImage (parts_of code.now names.now bound) }
+    requires { ForSome bound (λ n. n < 2 ^ 64 - 1) }
     ensures { (result ≡ Ok (parts_of code.now names.now bound)) ⊎ (result ≡ Err ImageError.NoMemory) }
 {
     let image = write_image(alloc, code, names, bound)?;

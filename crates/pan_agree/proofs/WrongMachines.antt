@@ -4,7 +4,6 @@ use Rattle.std.proofs.lemmas.Bool.{false≢true}
 use Rattle.pan_base.specs.Events.{Event, Exit, Spent, Stack, Fault, Behaviour, only}
 use Rattle.pan_agree.specs.Agree.{Overflows, DoesNoMore, NeverFails, Agree}
 use Rattle.pan_agree.specs.Samples.{loops, exits, at_once}
-use Rattle.pan_base.proofs.PrefixLaws.{prefix_refl}
 
 never_fails : NeverFails loops
 never_fails n e = cc
@@ -32,8 +31,8 @@ module _ (stack : ℕ) where
   no_idleness a = let f = a.forward 1 (λ e. cc) in idle_does f.0 f.1
 
   idle : (k : ℕ) → DoesNoMore loops (at_once (only Spent) k)
-  idle zero = record { no_fault = λ e. cc; front = (0, prefix_refl []); same_end = λ real. absurd (false≢true real) }
-  idle (suc k) = record { no_fault = λ e. cc; front = (0, prefix_refl []); same_end = λ real. absurd (false≢true real) }
+  idle zero = record { no_fault = λ e. cc; front = (0, record { rest = []; all = refl }); same_end = λ real. absurd (false≢true real) }
+  idle (suc k) = record { no_fault = λ e. cc; front = (0, record { rest = []; all = refl }); same_end = λ real. absurd (false≢true real) }
 
   idle_stack : (k : ℕ) → (at_once (only Spent) k).ending ≡ Stack → ⊥
   idle_stack zero e = cc

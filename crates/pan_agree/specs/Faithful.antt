@@ -1,9 +1,10 @@
 -- An image that is faithful to a program of the source.
 use Rattle.std.specs.Prelude.{ℕ, List}
 use Rattle.pan_base.specs.Events.{Replied}
+use Rattle.pan_base.specs.Lawful.{IsLawfulMemory, IsLawfulStack}
 use Rattle.pan_tree.specs.Meaning.{source}
 use Rattle.pan_tree.specs.declared.program.Program.{Program}
-use Rattle.riscv_isa.specs.Machine.{machine, IsLawfulMemory, IsLawfulStack}
+use Rattle.riscv_isa.specs.Machine.{machine}
 use Rattle.riscv_isa.specs.Image.{ImageParts, ImageOf}
 use Rattle.pan_agree.specs.Agree.{Agree}
 

@@ -17,3 +17,4 @@ pub mod Tokens
 pub mod Lexing
 pub mod Trace
 pub mod Pieces
+pub mod Lawful

@@ -6,7 +6,6 @@ mod comments;
 mod error;
 mod laws;
 mod lexing;
-mod numerals;
 mod pieces;
 mod signs;
 #[cfg(test)]

@@ -12,8 +12,6 @@ mod parsing;
 mod shapes;
 mod simple;
 mod statements;
-#[cfg(test)]
-mod tests;
 mod text;
 
 pub use error::ParseError;

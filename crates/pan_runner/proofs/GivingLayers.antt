@@ -11,10 +11,10 @@ use Rattle.pan_control.specs.Memory.{byte_at}
 use Rattle.pan_tree.specs.declared.shape.Shape.{Shape}
 use Rattle.pan_tree.specs.Value.{Value as Meant, Word, Struct, values_of, part_of_part}
 use Rattle.pan_tree.specs.Meaning.{as_word, all_given, shifted}
-use Rattle.pan_runner.specs.declared.resolved.Expr.{Expr, Expr-F, fold-roll-Expr, roll-Expr, map-Expr}
-use Rattle.pan_runner.specs.declared.resolved.Expr.TheOpen as open_expr
-use Rattle.pan_runner.specs.declared.resolved.Expr.TheVariants as e
-use Rattle.pan_runner.specs.Slots.{Variables, Giving, variable, chain, value_layer, value, word, values}
+use Rattle.source_resolver.specs.declared.resolved.Expr.{Expr, Expr-F, fold-roll-Expr, roll-Expr, map-Expr}
+use Rattle.source_resolver.specs.declared.resolved.Expr.TheOpen as open_expr
+use Rattle.source_resolver.specs.declared.resolved.Expr.TheVariants as e
+use Rattle.source_resolver.specs.Slots.{Variables, Giving, variable, chain, value_layer, value, word, values}
 use Rattle.pan_runner.specs.Evaluating.{term, loaded, compared}
 
 roll : (x : Expr-F Expr) (u : Variables) (m : List ℕ) → value (roll-Expr x) u m ≡ value_layer (map-Expr Expr Giving value x) u m

@@ -7,8 +7,8 @@ use Rattle.pan_control.specs.Memory.{words_at}
 use Rattle.pan_tree.specs.declared.shape.Shape.{Shape}
 use Rattle.pan_tree.specs.Shapes.{words_of, filled}
 use Rattle.pan_tree.specs.Value.{Value}
-use Rattle.pan_runner.specs.declared.resolved.Expr.{Expr}
-use Rattle.pan_runner.specs.Slots.{Giving, value}
+use Rattle.source_resolver.specs.declared.resolved.Expr.{Expr}
+use Rattle.source_resolver.specs.Slots.{Giving, value}
 
 -- a term of a chain, with what its expression gives
 abbrev pub term : BinOp × Expr → BinOp × Giving

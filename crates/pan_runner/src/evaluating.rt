@@ -7,16 +7,16 @@ ghost use Rattle.pan_control.specs.Memory.{byte_at};
 ghost use Rattle.pan_tree.specs.Value.{Word, Struct, values_of, part_of_part};
 ghost use Rattle.pan_tree.specs.Meaning as meaning;
 ghost use Rattle.pan_runner.specs.Told.{told, all_told};
-ghost use Rattle.pan_runner.specs.Slots as slots;
-ghost use Rattle.pan_runner.specs.Slots.{value, word, values};
+ghost use Rattle.source_resolver.specs.Slots as slots;
+ghost use Rattle.source_resolver.specs.Slots.{value, word, values};
 ghost use Rattle.pan_runner.specs.Evaluating.{term, loaded, compared};
 
 use crate::memory::{load_byte, load_word, load_words};
-use crate::resolved::Expr;
 use crate::value::Value;
 use crate::values::{as_word, copy, filled, part_at};
 use pan_base::{BinOp, Cmp, List, NoMemory, ShOp};
 use pan_tree::{Shape, count_words};
+use source_resolver::Expr;
 use std::alloc::Global;
 
 /// What is left of a word that is shifted by all of its bits or more.

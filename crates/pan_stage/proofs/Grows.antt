@@ -1,6 +1,7 @@
 -- What was seen stays: the trace only grows, and the most of the active costs and the toll never fall.
-use Rattle.std.proofs.Common.{◌≡◌, ℕ, zero, suc, ◌≤◌, List, [], ◌∷◌, ◌++◌, Option, Some, None, Bool, true, false, refl, sym, ap, ◌∙◌, arith, append_assoc, append-nil}
-use Rattle.pan_base.specs.Events.{Asked, Replied, Event, IsPrefix, fits}
+use Rattle.std.proofs.Common.{◌≡◌, ℕ, zero, suc, ◌≤◌, List, [], ◌∷◌, ◌++◌, Option, Some, None, Bool, true, false, refl, sym, subst, arith}
+use Rattle.pan_base.specs.Events.{Asked, Replied, IsPrefix, fits}
+use Rattle.pan_base.proofs.PrefixLaws.{prefix_refl, prefix_trans}
 use Rattle.pan_control.specs.World.{World, entered, leaving, back_in, tolled}
 use Rattle.pan_control.specs.Control.{Outcome, Normal, Broken, Continued, Returned, Raised, Over, Meaning, Callee, and_then, in_turn, with_value, if_not_zero, spend_of, spend, ask_fit, ask_of, ask, after_body, turn, turns, after_call, call, tail_call, where_true, left, world_of}
 
@@ -11,18 +12,15 @@ pub record Extends {G : Type 0} (w w' : World G) : Type 0 where
   pub toll : w.toll ≤ w'.toll
 
 pub extends_same : {G : Type 0} → (w w' : World G) → w'.trace ≡ w.trace → w.deepest ≤ w'.deepest → w.toll ≤ w'.toll → Extends w w'
-extends_same w w' t d l = record { trace = record { rest = []; all = t ∙ sym (append-nil w.trace) }; deepest = d; toll = l }
+extends_same w w' t d l = record { trace = subst (IsPrefix w.trace) (sym t) (prefix_refl w.trace); deepest = d; toll = l }
 
 pub extends_self : {G : Type 0} → (w : World G) → Extends w w
 extends_self w = extends_same w w refl (omega arith) (omega arith)
 
-pub prefix_on : (a b c : List Event) → IsPrefix a b → IsPrefix b c → IsPrefix a c
-prefix_on a b c p q = record { rest = p.rest ++ q.rest; all = q.all ∙ (ap (λ e. e ++ q.rest) p.all ∙ append_assoc a p.rest q.rest) }
-
-pub extends_on : {G : Type 0} → (w w' w'2 : World G) → Extends w w' → Extends w' w'2 → Extends w w'2
-extends_on w w' w'2 a b =
+pub extends_on : {G : Type 0} → (first middle last : World G) → Extends first middle → Extends middle last → Extends first last
+extends_on first middle last a b =
     record {
-      trace = prefix_on w.trace w'.trace w'2.trace a.trace b.trace;
+      trace = prefix_trans first.trace middle.trace last.trace a.trace b.trace;
       deepest = omega (arith, a.deepest, b.deepest);
       toll = omega (arith, a.toll, b.toll);
     }

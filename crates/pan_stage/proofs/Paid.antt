@@ -2,9 +2,10 @@
 use Rattle.std.proofs.Common.{ℕ, ◌+◌, ◌*◌, ◌<◌, ◌≤◌, arith}
 use Rattle.std.proofs.Math.Nat.{mul-le-mul_left}
 use Rattle.pan_base.specs.Events.{IsPrefix}
+use Rattle.pan_base.proofs.PrefixLaws.{prefix_trans}
 use Rattle.pan_control.specs.World.{World}
 use Rattle.pan_control.specs.Control.{Outcome, Normal, Meaning, Callee, and_then}
-use Rattle.pan_stage.proofs.Grows.{Extends, prefix_on}
+use Rattle.pan_stage.proofs.Grows.{Extends}
 use Rattle.pan_stage.proofs.Follows.{beside, Ends, Same, Nothing, Follows, less_same, more_same}
 
 -- both have the same globals, as from words on
@@ -40,7 +41,7 @@ exhausting size k = record {
   cut = Exhausted size k;
   stays = λ w w' after e h. record {
     deeper = let a = e.deepest in let b = h.deeper in omega (arith, a, b);
-    front = prefix_on after.trace w.trace w'.trace h.front e.trace;
+    front = prefix_trans after.trace w.trace w'.trace h.front e.trace;
     toll = let a = mul-le-mul_left k e.toll in let b = h.toll in omega (arith, a, b);
   };
 }

@@ -4,10 +4,12 @@ use Rattle.std.specs.Int.{w64, to_le_bytes}
 use Rattle.pan_base.specs.declared.events.Size.{Size}
 use Rattle.pan_base.specs.declared.events.Size.TheVariants.{B1}
 use Rattle.pan_base.specs.Bytes.{is_within, number_at, with_number}
-use Rattle.pan_base.specs.Events.{byte_count}
+use Rattle.pan_base.specs.Events.{Replied, byte_count}
 use Rattle.pan_base.specs.Words.{base_address}
 use Rattle.pan_control.specs.World.{World as WorldOf}
 use Rattle.pan_control.specs.Control.{Outcome as OutcomeOf, Meaning as MeaningOf, Callee as CalleeOf, with_value}
+use Rattle.pan_control.specs.Runs as runs
+use Rattle.pan_stage.specs.Toll.{stepped, starting_steps}
 
 -- the address at which the globals begin
 abbrev pub globals_address : ℕ
@@ -77,6 +79,10 @@ Meaning V X = MeaningOf (List ℕ) V X
 
 abbrev pub Callee : Type 0 → Type 0 → Type 0
 Callee A X = CalleeOf (List ℕ) A X
+
+-- the world at the start, with these words as globals, this memory, these replies and this fuel
+abbrev pub start : List ℕ → List ℕ → List Replied → ℕ → World
+start words m r n = stepped starting_steps (runs.start (words_bytes words) m r n)
 
 -- goes on with the number at the address, or fails
 abbrev pub with_read : {V X : Type 0} → Size → ℕ → World → (ℕ → Outcome V X) → Outcome V X

@@ -13,6 +13,10 @@ bytes_in_step = 64
 abbrev pub passing_steps : ℕ
 passing_steps = 8
 
+-- what the begin and the end of a program are worth: each stage starts with so many steps done
+abbrev pub starting_steps : ℕ
+starting_steps = 1
+
 -- so many steps are done
 abbrev pub stepped : {G : Type 0} → ℕ → World G → World G
 stepped n w = tolled (instructions_in_step * n) w

@@ -5,3 +5,4 @@ pub mod GoesOn
 pub mod Ends
 pub mod InOrder
 pub mod SourceOrder
+pub mod CheckLayers

@@ -1,13 +1,15 @@
 //! What follows from the meaning, on calls that do nothing.
 
-ghost use Rattle.std.specs.Prelude.{◌≡◌, ℕ, ◌+◌, List, ◌++◌};
+ghost use Rattle.std.specs.Prelude.{◌≡◌, true, ℕ, ◌+◌, List, ◌++◌};
 ghost use Rattle.pan_base.specs.Events.{Replied};
 ghost use Rattle.pan_tree.specs.Meaning.{Does, run_kind, run_layer, source};
 ghost use Rattle.pan_tree.specs.GoesOn.{GoesOn};
 ghost use Rattle.pan_tree.specs.Ends.{IsSourceLike};
 ghost use Rattle.pan_tree.specs.InOrder.{TakesInOrder};
 ghost use Rattle.pan_tree.specs.Running.{Callee};
+ghost use Rattle.pan_tree.specs.Shapes.{words_of, is_word, same};
 ghost use Rattle.pan_tree.specs.Value.{Value};
+ghost use Rattle.pan_tree.specs.declared.shape.Shape.{Shape};
 ghost use Rattle.pan_tree.specs.declared.syntax.StmtKind.{StmtKind, StmtKind-F, roll-StmtKind, map-StmtKind};
 ghost use Rattle.pan_tree.specs.declared.program.Program.{Program};
 
@@ -31,4 +33,11 @@ pub fn source_takes_in_order()
 pub fn statements_mean_by_parts()
     ensures { (program : Program) (turns : ℕ) (callee : Callee (List Value) Value) (statement : StmtKind-F StmtKind)
         → run_kind program turns callee (roll-StmtKind statement) ≡ run_layer program turns callee (map-StmtKind StmtKind Does (run_kind program turns callee) statement) }
+{}
+
+/// A word has one word, is one, and has the shape of whatever is one.
+pub fn word_is_one()
+    ensures words { words_of Shape.Word ≡ 1 }
+    ensures word { is_word Shape.Word ≡ true }
+    ensures alike { (shape : Shape) → same Shape.Word shape ≡ is_word shape }
 {}

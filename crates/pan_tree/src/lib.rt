@@ -14,6 +14,7 @@ mod tests;
 
 pub use laws::{
     source_goes_on, source_meets_no_limit, source_takes_in_order, statements_mean_by_parts,
+    word_is_one,
 };
 pub use level::Level;
 pub use program::{Exception, Function, Param, Program};

@@ -20,6 +20,7 @@ use Rattle.riscv_isa.specs.declared.place.Place.TheVariants as place
 use Rattle.riscv_isa.specs.Table.{Instruction, ShRow}
 use Rattle.riscv_isa.specs.Held.{word_at, IsAt, AreAt, Spells}
 use Rattle.riscv_isa.specs.Regions.{place_of}
+use Rattle.riscv_isa.specs.Sound.{GoesOnIn}
 use Rattle.riscv_isa.specs.Step.{State, Config, Runs, Waits, Over, with_reg, reg, plus, next, jump, linked, act, act_some, decoded_some, step, load, store, foreign, ecall, ended, request_of, loaded, replaced, resumed}
 use Rattle.pan_base.specs.Results.{loads, stores}
 use Rattle.riscv_isa.specs.Running.{run as run_of, taken}
@@ -179,12 +180,6 @@ module _ (code : List ℕ) where
 
 -- ---- where it goes on
 
--- where it goes on, its state is one of this kind
-abbrev pub GoesOn : (State → Type 0) → Config → Type 0
-GoesOn P (Runs t) = P t
-GoesOn P (Waits p t) = (r : Replied) → P (resumed p t r)
-GoesOn P (Over e) = Unit {0}
-
 abbrev pub Has32 : State → Type 0
 Has32 s = length s.registers ≡ 32
 
@@ -195,13 +190,13 @@ choice_32 false xs ys p q = q
 pub with_reg_32 : (s : State) (i n : ℕ) → Has32 s → Has32 (with_reg s i n)
 with_reg_32 s i n h = choice_32 (eqb i 0) s.registers _ h (length-set s.registers i n ∙ h)
 
-jump_32 : (b : Bool) (target : ℕ) (s : State) → Has32 s → GoesOn Has32 (cond b (Runs (record s { pc = target })) (Over Fault))
+jump_32 : (b : Bool) (target : ℕ) (s : State) → Has32 s → GoesOnIn Has32 (cond b (Runs (record s { pc = target })) (Over Fault))
 jump_32 true target s h = h
 jump_32 false target s h = tt
 
-load_32 : (p : Place) (op : LOp) (rd addr : ℕ) (s : State) → Has32 s → GoesOn Has32 (load p op rd addr s)
+load_32 : (p : Place) (op : LOp) (rd addr : ℕ) (s : State) → Has32 s → GoesOnIn Has32 (load p op rd addr s)
 load_32 (place.In region at) op rd addr s h = with_reg_32 s rd _ h
-load_32 place.Window op rd addr s h = λ r. by_reply r
+load_32 place.Window op rd addr s h = λ r fit. by_reply r
   where
     by_reply : (r : Replied) → Has32 (loaded op rd (next s) r)
     by_reply (Value n) = with_reg_32 (next s) rd _ h
@@ -210,13 +205,13 @@ load_32 place.Window op rd addr s h = λ r. by_reply r
     by_reply Stop = h
 load_32 place.Nowhere op rd addr s h = tt
 
-store_32 : (p : Place) (size : Size) (addr value : ℕ) (s : State) → Has32 s → GoesOn Has32 (store p size addr value s)
+store_32 : (p : Place) (size : Size) (addr value : ℕ) (s : State) → Has32 s → GoesOnIn Has32 (store p size addr value s)
 store_32 (place.In region at) size addr value s h = h
-store_32 place.Window size addr value s h = λ r. h
+store_32 place.Window size addr value s h = λ r fit. h
 store_32 place.Nowhere size addr value s h = tt
 
-foreign_32 : (b : Bool) (number : ℕ) (conf array : Buffer) (s : State) → Has32 s → GoesOn Has32 (cond b (Waits (pending.Foreign number conf array) (next s)) (Over Fault))
-foreign_32 true number conf array s h = by_reply
+foreign_32 : (b : Bool) (number : ℕ) (conf array : Buffer) (s : State) → Has32 s → GoesOnIn Has32 (cond b (Waits (pending.Foreign number conf array) (next s)) (Over Fault))
+foreign_32 true number conf array s h = λ r fit. by_reply r
   where
     by_reply : (r : Replied) → Has32 (replaced array (next s) r)
     by_reply (Value n) = h
@@ -225,17 +220,17 @@ foreign_32 true number conf array s h = by_reply
     by_reply Stop = h
 foreign_32 false number conf array s h = tt
 
-ecall_32 : (a b : Bool) (e : Ending) (s : State) → Has32 s → GoesOn Has32 (cond a (Over e) (cond b (foreign s) (Over Fault)))
+ecall_32 : (a b : Bool) (e : Ending) (s : State) → Has32 s → GoesOnIn Has32 (cond a (Over e) (cond b (foreign s) (Over Fault)))
 ecall_32 true b e s h = tt
 ecall_32 false true e s h = foreign_32 _ (reg s 14) _ _ s h
 ecall_32 false false e s h = tt
 
-branch_32 : (b c : Bool) (target : ℕ) (s : State) → Has32 s → GoesOn Has32 (cond b (cond c (Runs (record s { pc = target })) (Over Fault)) (Runs (next s)))
+branch_32 : (b c : Bool) (target : ℕ) (s : State) → Has32 s → GoesOnIn Has32 (cond b (cond c (Runs (record s { pc = target })) (Over Fault)) (Runs (next s)))
 branch_32 true c target s h = jump_32 c target s h
 branch_32 false c target s h = h
 
 -- an instruction keeps the number of registers
-pub act_32 : (i : Instr) (s : State) → Has32 s → GoesOn Has32 (act i s)
+pub act_32 : (i : Instr) (s : State) → Has32 s → GoesOnIn Has32 (act i s)
 act_32 (instr.R op rd rs1 rs2) s h = with_reg_32 s rd _ h
 act_32 (instr.I op rd rs1 imm) s h = with_reg_32 s rd _ h
 act_32 (instr.Sh op rd rs1 amount) s h = with_reg_32 s rd _ h
@@ -250,13 +245,13 @@ act_32 instr.Ecall s h = ecall_32 (eqb (reg s 17) 0) (eqb (reg s 17) 1) (ended (
 act_32 instr.Ebreak s h = tt
 
 -- Two ways to go on that agree wherever the first doesn't fail agree in what is seen.
-pub continue_unless : (P : State → Type 0) (c : Config) (f g : State → List Replied → Behaviour) (replies : List Replied) → GoesOn P c → (continue c f replies).ending ≢ Fails
+pub continue_unless : (P : State → Type 0) (c : Config) (f g : State → List Replied → Behaviour) (replies : List Replied) → GoesOnIn P c → (continue c f replies).ending ≢ Fails
     → ((t : State) → P t → (rs : List Replied) → (f t rs).ending ≢ Fails → g t rs ≡ f t rs) → continue c g replies ≡ continue c f replies
 continue_unless P (Runs t) f g replies on ok same = same t on replies ok
 continue_unless P (Over e) f g replies on ok same = refl
 continue_unless P (Waits p t) f g [] on ok same = refl
-continue_unless P (Waits p t) f g (r ∷ replies) on ok same = by_fit (fits (request_of p t) r) ok
+continue_unless P (Waits p t) f g (r ∷ replies) on ok same = by_fit (fits (request_of p t) r) refl ok
   where
-    by_fit : (b : Bool) → (taken b (request_of p t) r (f (resumed p t r) replies)).ending ≢ Fails → taken b (request_of p t) r (g (resumed p t r) replies) ≡ taken b (request_of p t) r (f (resumed p t r) replies)
-    by_fit true ok = ap (taken true (request_of p t) r) (same (resumed p t r) (on r) replies ok)
-    by_fit false ok = refl
+    by_fit : (b : Bool) → fits (request_of p t) r ≡ b → (taken b (request_of p t) r (f (resumed p t r) replies)).ending ≢ Fails → taken b (request_of p t) r (g (resumed p t r) replies) ≡ taken b (request_of p t) r (f (resumed p t r) replies)
+    by_fit true fit ok = ap (taken true (request_of p t) r) (same (resumed p t r) (on r fit) replies ok)
+    by_fit false fit ok = refl

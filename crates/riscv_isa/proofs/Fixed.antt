@@ -1,13 +1,13 @@
 -- No step changes the code, the names, or how large the regions are.
-use Rattle.std.proofs.Common.{◌≡◌, ℕ, ◌+◌, ◌*◌, ◌/◌, ◌%◌, ◌≤◌, zero, suc, refl, sym, ap, ◌∙◌, subst, List, length, take, drop, Bool, true, false, eqb, leb, cond, Option, Some, None, arith}
+use Rattle.std.proofs.Common.{◌≡◌, ℕ, ◌+◌, ◌*◌, ◌/◌, ◌%◌, ◌≤◌, zero, suc, refl, ◌∙◌, subst, List, length, drop, Bool, true, false, eqb, leb, cond, Option, Some, None, arith}
 use Rattle.std.specs.Prelude.{◌&&◌, nat_lt}
 use Rattle.std.specs.List.{list_all}
 use Rattle.std.proofs.lemmas.Bool.{and_parts, eqb-true, leb-true}
 use Rattle.std.proofs.lemmas.List.{length-take-le, length-drop}
 use Rattle.pan_base.specs.declared.events.Size.{Size}
 use Rattle.pan_base.specs.declared.operators.LOp.{LOp}
-use Rattle.pan_base.specs.Bytes.{part, with_part}
-use Rattle.pan_base.specs.Events.{Replied, Value, Done, Bytes, Stop, Ending, Fault, Fits, fits, byte_count}
+use Rattle.pan_base.specs.Bytes.{part}
+use Rattle.pan_base.specs.Events.{Replied, Value, Done, Bytes, Stop, Ending, Fault, Fits, byte_count}
 use Rattle.pan_base.specs.Results.{loads, stores, plus}
 use Rattle.pan_base.specs.Words.{compare}
 use Rattle.pan_base.proofs.ByteLaws.{with_number_length, part_length}
@@ -17,12 +17,11 @@ use Rattle.riscv_isa.specs.declared.pending.Buffer.{Buffer}
 use Rattle.riscv_isa.specs.declared.pending.Pending.TheVariants as pending
 use Rattle.riscv_isa.specs.declared.place.Place.{Place}
 use Rattle.riscv_isa.specs.declared.place.Place.TheVariants as place
-use Rattle.riscv_isa.specs.declared.place.Region.{Region}
 use Rattle.riscv_isa.specs.declared.place.Region.TheVariants.{Local}
-use Rattle.riscv_isa.specs.Regions.{begin, bytes_of, with_bytes, is_in, place_of}
+use Rattle.riscv_isa.specs.Regions.{begin, bytes_of, is_in, place_of}
 use Rattle.riscv_isa.specs.Running.{Leads}
 use Rattle.riscv_isa.specs.Sound.{IsFixed, GoesOnIn}
-use Rattle.riscv_isa.specs.Step.{State, Config, Runs, Waits, Over, reg, with_reg, next, jump, linked, load, store, buffer, foreign, ecall, ended, act, act_some, decoded_some, fetched, step, request_of, loaded, replaced}
+use Rattle.riscv_isa.specs.Step.{State, Runs, Waits, Over, reg, next, linked, load, store, buffer, foreign, ended, act, act_some, decoded_some, fetched, step, request_of, loaded, replaced}
 use Rattle.riscv_isa.proofs.Memories.{sizes_kept}
 use Rattle.riscv_isa.proofs.Places.{place_is}
 

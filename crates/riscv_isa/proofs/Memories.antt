@@ -1,16 +1,16 @@
 -- Data memory with other bytes in a region, and what a write leaves to be read.
-use Rattle.std.proofs.Common.{◌≡◌, ◌≢◌, ℕ, ◌+◌, ◌*◌, ◌%◌, ◌^◌, ◌≤◌, zero, suc, refl, sym, ap, ◌∙◌, subst, List, [], ◌∷◌, length, Bool, true, false, eqb, ltb, arith, inl, inr}
-use Rattle.std.specs.Prelude.{◌⊎◌, slice_index, ◌&&◌, nat_lt}
+use Rattle.std.proofs.Common.{◌≡◌, ◌≢◌, ℕ, ◌+◌, ◌*◌, ◌%◌, ◌^◌, ◌≤◌, zero, suc, refl, ap, ◌∙◌, List, [], ◌∷◌, length, true, ltb, arith}
+use Rattle.std.specs.Prelude.{◌⊎◌, nat_lt}
 use Rattle.std.specs.List.{list_all}
 use Rattle.std.proofs.lemmas.Bool.{and_parts, ltb-true}
 use Rattle.pan_base.specs.declared.events.Size.{Size}
 use Rattle.pan_base.specs.Words.{IsBytes}
 use Rattle.pan_base.specs.Bytes.{number_at, with_number}
 use Rattle.pan_base.specs.Events.{byte_count}
-use Rattle.pan_base.proofs.ByteLaws.{with_number_length, number_read_back, number_elsewhere}
+use Rattle.pan_base.proofs.ByteLaws.{number_read_back, number_elsewhere}
 use Rattle.riscv_isa.specs.declared.place.Region.{Region}
 use Rattle.riscv_isa.specs.declared.place.Region.TheVariants.{Block, Globals, Local, Stack}
-use Rattle.riscv_isa.specs.Regions.{Memory, AreApart, begin, bytes_of, with_bytes}
+use Rattle.riscv_isa.specs.Regions.{Memory, AreApart, bytes_of, with_bytes}
 
 -- what holds of the new bytes of a region and of the bytes of each region before holds of all
 pub everywhere : (P : Region → List ℕ → Type 0) (r : Region) (bs : List ℕ) (d : Memory) → P r bs → ((q : Region) → P q (bytes_of q d)) → (q : Region) → P q (bytes_of q (with_bytes r bs d))

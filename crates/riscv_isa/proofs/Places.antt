@@ -1,12 +1,11 @@
 -- Where accesses go.
-use Rattle.std.proofs.Common.{◌≡◌, ℕ, ◌+◌, ◌-◌, ◌%◌, ◌≤◌, ◌<◌, List, length, arith}
+use Rattle.std.proofs.Common.{◌≡◌, ℕ, ◌+◌, ◌-◌, ◌%◌, ◌≤◌, ◌<◌, arith}
 use Rattle.std.specs.Prelude.{◌↔◌}
 use Rattle.std.proofs.lemmas.Bool.Decides.{nat_tests}
 use Rattle.riscv_isa.specs.declared.place.Region.{Region}
 use Rattle.riscv_isa.specs.declared.place.Region.TheVariants.{Block, Globals, Local, Stack}
-use Rattle.riscv_isa.specs.declared.place.Place.{Place}
-use Rattle.riscv_isa.specs.declared.place.Place.TheVariants.{In, Window, Nowhere}
-use Rattle.riscv_isa.specs.Regions.{Memory, AreApart, IsInside, begin, bytes_of, place_of}
+use Rattle.riscv_isa.specs.declared.place.Place.TheVariants.{In, Window}
+use Rattle.riscv_isa.specs.Regions.{Memory, AreApart, IsInside, begin, place_of}
 
 pub placed : (r : Region) (d : Memory) (addr size : ℕ) → AreApart d → 0 < size → addr % size ≡ 0 → IsInside r d addr size → place_of d addr size ≡ In r (addr - begin r)
 unfolding place_of

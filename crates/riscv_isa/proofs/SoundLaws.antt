@@ -1,5 +1,5 @@
 -- Steps keep states sound.
-use Rattle.std.proofs.Common.{◌≡◌, ℕ, ℤ, pos, negsuc, ◌+◌, ◌-◌, ◌*◌, ◌/◌, ◌%◌, ◌^◌, ◌<◌, ◌≤◌, zero, suc, refl, sym, ap, ◌∙◌, subst, List, [], length, take, drop, replicate, Bool, true, false, eqb, leb, cond, Option, Some, None, arith, inl, inr}
+use Rattle.std.proofs.Common.{◌≡◌, ℕ, ℤ, pos, negsuc, ◌+◌, ◌-◌, ◌*◌, ◌/◌, ◌%◌, ◌^◌, ◌<◌, ◌≤◌, zero, suc, refl, sym, ap, ◌∙◌, subst, List, length, take, drop, replicate, Bool, true, false, eqb, leb, cond, Option, Some, None, arith, inl, inr}
 use Rattle.std.specs.Prelude.{◌≤ℤ◌, ◌&&◌, nat_lt, nat_le, slice_index, slice_set}
 use Rattle.std.specs.List.{list_all}
 use Rattle.std.specs.Int.{w32, from_le_bytes}
@@ -8,9 +8,9 @@ use Rattle.std.proofs.lemmas.List.{get_or-set_same, get_or-set_other, get_or_pas
 use Rattle.pan_base.specs.declared.events.Size.{Size}
 use Rattle.pan_base.specs.declared.events.Size.TheVariants.{B4}
 use Rattle.pan_base.specs.declared.operators.LOp.{LOp}
-use Rattle.pan_base.specs.Bytes.{number_at, with_number, part, with_part}
+use Rattle.pan_base.specs.Bytes.{number_at, part}
 use Rattle.pan_base.specs.Events.{Replied, Value, Done, Bytes, Stop, Ending, Fault, Fits, byte_count}
-use Rattle.pan_base.specs.Results.{immediate, plus, loads, stores, l_result}
+use Rattle.pan_base.specs.Results.{immediate, plus, loads, stores}
 use Rattle.pan_base.specs.Words.{IsBytes, IsWord, compare}
 use Rattle.pan_base.proofs.ByteLaws.{number_is_small, with_number_is_small, with_part_is_small}
 use Rattle.pan_base.proofs.ResultLaws.{plus_is_word, r_result_is_word, i_result_is_word, sh_result_is_word, u_result_is_word, l_result_is_word}
@@ -22,16 +22,15 @@ use Rattle.riscv_isa.specs.declared.place.Place.{Place}
 use Rattle.riscv_isa.specs.declared.place.Place.TheVariants as place
 use Rattle.riscv_isa.specs.declared.place.Region.{Region}
 use Rattle.riscv_isa.specs.declared.place.Region.TheVariants.{Block, Globals, Local, Stack}
-use Rattle.riscv_isa.specs.Held.{word_at}
-use Rattle.riscv_isa.specs.Decoded.{decoded}
 use Rattle.riscv_isa.specs.Regions.{bytes_of, with_bytes, place_of}
 use Rattle.riscv_isa.specs.Running.{Leads}
 use Rattle.riscv_isa.specs.Sound.{IsSound, IsFixed, GoesOnIn}
-use Rattle.riscv_isa.specs.Step.{State, Config, Runs, Waits, Over, reg, with_reg, next, jump, linked, load, store, foreign, ecall, ended, act, act_some, decoded_some, fetched, step, request_of, resumed, loaded, replaced}
+use Rattle.riscv_isa.specs.Step.{State, Config, Runs, Waits, Over, reg, with_reg, next, linked, load, store, foreign, ended, act, act_some, decoded_some, fetched, step, request_of, resumed, loaded, replaced}
 use Rattle.riscv_isa.specs.Image.{ImageParts, IsLawfulImage}
-use Rattle.riscv_isa.specs.Machine.{booted, IsLawfulMemory, IsLawfulStack}
+use Rattle.pan_base.specs.Lawful.{IsLawfulMemory, IsLawfulStack}
+use Rattle.riscv_isa.specs.Machine.{booted}
 use Rattle.riscv_isa.specs.Table.{InRange}
-use Rattle.riscv_isa.proofs.Fixed.{same, act_fixes, AreBytesFor}
+use Rattle.riscv_isa.proofs.Fixed.{act_fixes, AreBytesFor}
 use Rattle.riscv_isa.proofs.Memories.{everywhere, stay_apart, all_bytes}
 use Rattle.riscv_isa.proofs.Ranges.{decoded_in_range}
 

@@ -1,5 +1,5 @@
 -- From an address of code to another one.
-use Rattle.std.proofs.Common.{◌≡◌, ◌≢◌, ℕ, ℤ, pos, negsuc, ◌+◌, ◌-◌, ◌*◌, ◌/◌, ◌%◌, ◌^◌, ◌<◌, ◌≤◌, refl, sym, ap, ◌∙◌, subst, [], ◌∷◌, length, true, arith, eq-eqb}
+use Rattle.std.proofs.Common.{◌≡◌, ◌≢◌, ℕ, ◌+◌, ◌-◌, ◌*◌, ◌/◌, ◌%◌, ◌^◌, ◌<◌, ◌≤◌, refl, ap, ◌∙◌, [], ◌∷◌, length, arith, eq-eqb}
 use Rattle.std.specs.Prelude.{◌⊎◌}
 use Rattle.std.proofs.lemmas.Bool.Decides.{nat_tests}
 use Rattle.pan_base.specs.declared.operators.IOp.TheVariants.{Addi}
@@ -9,7 +9,7 @@ use Rattle.pan_base.specs.Words.{signed}
 use Rattle.riscv_isa.specs.declared.instr.Instr.TheVariants as instr
 use Rattle.riscv_isa.specs.Held.{IsAt, AreAt}
 use Rattle.riscv_isa.specs.Running.{Leads}
-use Rattle.riscv_isa.specs.Step.{State, Runs, reg, with_reg, next, jump, linked, act, step}
+use Rattle.riscv_isa.specs.Step.{State, Runs, reg, with_reg, next, jump, linked, step}
 use Rattle.riscv_isa.specs.Ways.{IsNear, way, high_of, low_of, halfway}
 use Rattle.riscv_isa.proofs.Fetching.{stepped}
 use Rattle.riscv_isa.proofs.Registers.{written}

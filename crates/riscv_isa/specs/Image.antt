@@ -30,6 +30,17 @@ layout parts =
     ++ to_le_bytes w32 (length (names_part parts.names)) ++ to_le_bytes w32 0
     ++ names_part parts.names ++ replicate ((4 - length (names_part parts.names) % 4) % 4) 0 ++ parts.code
 
+-- code that an image may hold: whole words, and at most 268,439,552 bytes
+pub record IsLawfulCode (code : List ℕ) : Type 0 where
+  pub whole : length code % 4 ≡ 0
+  pub most : length code ≤ 268439552
+  pub bytes : IsBytes code
+
+-- names that an image may hold: at most 1,024 short foreign names that differ
+pub record AreLawfulNames (names : List (List ℕ)) : Type 0 where
+  pub named : IsTrue (are_foreign_names names)
+  pub count : length names ≤ 1024
+
 -- what an image may hold
 pub record IsLawfulImage (parts : ImageParts) : Type 0 where
   pub whole : length parts.code % 4 ≡ 0

@@ -1,6 +1,5 @@
 -- Whole runs of the machine.
-use Rattle.std.specs.Prelude.{◌≡◌, ℕ, ◌+◌, ◌%◌, ◌≤◌, List, [], length, replicate, slice_set}
-use Rattle.pan_base.specs.Words.{IsBytes}
+use Rattle.std.specs.Prelude.{ℕ, ◌+◌, List, [], replicate, slice_set}
 use Rattle.pan_base.specs.Events.{Replied, Behaviour}
 use Rattle.riscv_isa.specs.Running as running
 use Rattle.riscv_isa.specs.Step.{State, Config, step, request_of, resumed}
@@ -27,14 +26,3 @@ booted parts memory stack = record {
 -- The trace and the end of the machine of an image with this local memory and so many bytes of stack, with these replies and at most k steps.
 abbrev pub machine : ImageParts → List ℕ → ℕ → List Replied → ℕ → Behaviour
 machine parts memory stack replies k = run k (booted parts memory stack) replies
-
--- a lawful local memory: bytes, a multiple of 8 of them and at most 67,108,864
-pub record IsLawfulMemory (memory : List ℕ) : Type 0 where
-  pub whole : length memory % 8 ≡ 0
-  pub most : length memory ≤ 67108864
-  pub bytes : IsBytes memory
-
--- a lawful number of bytes of stack: a multiple of 16 and at most 67,108,864
-pub record IsLawfulStack (stack : ℕ) : Type 0 where
-  pub whole : stack % 16 ≡ 0
-  pub most : stack ≤ 67108864

@@ -1,5 +1,5 @@
 -- Sound states of the machine, and what a state goes on to.
-use Rattle.std.specs.Prelude.{◌≡◌, ℕ, ◌≤◌, List, length, slice_index}
+use Rattle.std.specs.Prelude.{◌≡◌, ℕ, ◌≤◌, length, slice_index}
 use Rattle.pan_base.specs.Words.{IsBytes, IsWord}
 use Rattle.pan_base.specs.Events.{Replied, Fits}
 use Rattle.riscv_isa.specs.declared.place.Region.{Region}

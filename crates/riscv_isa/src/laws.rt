@@ -1,20 +1,20 @@
 //! Laws of words and instructions: encoding and decoding undo each other, and decoding is the table. Laws of the machine
 //! and of runs.
 
-ghost use Rattle.std.specs.Prelude.{◌≡◌, ◌≢◌, ◌⊎◌, ◌↔◌, ℕ, suc, ◌+◌, ◌-◌, ◌*◌, ◌%◌, ◌^◌, ◌<◌, ◌≤◌, Some, option_map, List, [], ◌∷◌, ◌++◌, length, true, false};
+ghost use Rattle.std.specs.Prelude.{◌≡◌, ◌≢◌, ◌⊎◌, ◌↔◌, ℕ, suc, ◌+◌, ◌-◌, ◌*◌, ◌%◌, ◌^◌, ◌<◌, ◌≤◌, Some, option_map, List, [], ◌∷◌, length, true, false};
 ghost use Rattle.pan_base.specs.declared.events.Size.{Size};
 ghost use Rattle.pan_base.specs.declared.operators.IOp.TheVariants.{Addi};
 ghost use Rattle.pan_base.specs.declared.operators.UOp.TheVariants.{Auipc};
 ghost use Rattle.pan_base.specs.Bytes.{number_at, with_number};
 ghost use Rattle.pan_base.specs.Events.{Asked, Replied, Ending, Stopped, Asks, before, only, fits, byte_count};
-ghost use Rattle.pan_base.specs.Words.{IsBytes};
 ghost use Rattle.riscv_isa.specs.declared.instr.Instr.{Instr};
 ghost use Rattle.riscv_isa.specs.declared.place.Place.TheVariants.{In, Window};
 ghost use Rattle.riscv_isa.specs.declared.place.Region.{Region};
 ghost use Rattle.riscv_isa.specs.Decoded.{decoded};
-ghost use Rattle.riscv_isa.specs.Held.{IsAt, AreAt, Spells};
+ghost use Rattle.riscv_isa.specs.Held.{IsAt, AreAt};
 ghost use Rattle.riscv_isa.specs.Image.{ImageParts, IsLawfulImage};
-ghost use Rattle.riscv_isa.specs.Machine.{booted, machine, IsLawfulMemory, IsLawfulStack};
+ghost use Rattle.pan_base.specs.Lawful.{IsLawfulMemory, IsLawfulStack};
+ghost use Rattle.riscv_isa.specs.Machine.{booted, machine};
 ghost use Rattle.riscv_isa.specs.Regions.{Memory, AreApart, IsInside, begin, bytes_of, with_bytes, place_of};
 ghost use Rattle.riscv_isa.specs.Running.{Config, Waits, Over, run, Leads, IsSteady};
 ghost use Rattle.riscv_isa.specs.Sound.{IsSound, IsFixed, GoesOnIn};
@@ -113,16 +113,6 @@ pub fn accesses_find_regions()
         (from + byte_count other ≤ at) ⊎ (at + byte_count size ≤ from) →
         number_at other (bytes_of r (with_bytes r (with_number size (bytes_of r d) at n) d)) from ≡ number_at other (bytes_of r d) from }
     ensures read_elsewhere { (r q : Region) (bytes : List ℕ) (d : Memory) → r ≢ q → bytes_of q (with_bytes r bytes d) ≡ bytes_of q d }
-{}
-
-/// The machine does the instruction that its code holds at the program counter. Code whose bytes spell instructions holds
-/// them, one after another. It does nothing.
-pub fn code_holds_instructions()
-    ensures step { (s : State) (i : Instr) → IsAt i s.code s.pc → step s ≡ act i s }
-    ensures spelled { (instrs : List Instr) (code front bytes : List ℕ) (at : ℕ) → Spells bytes instrs → code ≡ front ++ bytes →
-        at ≡ 0x100000000 + length front → AreAt instrs code at }
-    ensures length { (instrs : List Instr) (bytes : List ℕ) → Spells bytes instrs → length bytes ≡ 4 * length instrs }
-    ensures bytes { (instrs : List Instr) (bytes : List ℕ) → Spells bytes instrs → IsBytes bytes }
 {}
 
 /// From each address of code an AUIPC and the instruction after it reach each other address of code: a JALR jumps there

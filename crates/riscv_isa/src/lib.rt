@@ -23,8 +23,8 @@ pub use decoding::decode;
 pub use encoding::encode;
 pub use instr::Instr;
 pub use laws::{
-    accesses_find_regions, code_holds_instructions, decoded_is_the_table, machine_goes_on,
-    read_written, registers_hold, runs_go_on, states_stay_sound, ways_reach, write_read,
+    accesses_find_regions, decoded_is_the_table, machine_goes_on, read_written, registers_hold,
+    runs_go_on, states_stay_sound, ways_reach, write_read,
 };
 pub use pending::{Buffer, Pending};
 pub use place::{Place, Region};

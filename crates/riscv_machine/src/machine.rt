@@ -2,8 +2,9 @@
 
 ghost use Rattle.std.specs.Prelude.{◌≡◌, ◌+◌, ◌≤◌, ◌<◌, ◌^◌, ℕ, List, length, IsTrue, IfOk};
 ghost use Rattle.pan_base.specs.Events.{Replied};
+ghost use Rattle.pan_base.specs.Lawful.{IsLawfulMemory, IsLawfulStack};
 ghost use Rattle.riscv_isa.specs.Image.{are_foreign_names};
-ghost use Rattle.riscv_isa.specs.Machine.{booted, machine, IsLawfulMemory, IsLawfulStack};
+ghost use Rattle.riscv_isa.specs.Machine.{booted, machine};
 ghost use Rattle.riscv_machine.specs.View.{is_lawful};
 
 use crate::memory::DataMemory;

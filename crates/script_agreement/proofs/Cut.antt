@@ -2,8 +2,8 @@
 use Rattle.std.proofs.Common.{◌≡◌, ◌≢◌, ◌+◌, ◌≤◌, suc, List, [], ◌∷◌, ◌++◌, length, Bool, true, false, refl, sym, ap, ◌∙◌, subst, append_assoc, arith, length-append}
 use Rattle.std.proofs.lemmas.List.{append-nil, append_cancel_left}
 use Rattle.pan_base.specs.Events.{Asked, Replied, Event, Ending, Exit, Uncaught, Stopped, Asks, Spent, Stack, Fault, Fails, Behaviour, IsPrefix, fits}
-use Rattle.pan_port.specs.Device.{Given, Gave, Silent}
-use Rattle.pan_port.specs.Drive.{Gives, replies_of, Answered, Closes, AreGiven}
+use Rattle.pan_port.specs.Device.{Gives, Given, Gave, Silent}
+use Rattle.pan_port.specs.Drive.{replies_of, Answered, Closes, AreGiven}
 use Rattle.pan_tree.specs.GoesOn.{AnsweredBy}
 use Rattle.pan_tree.specs.InOrder.{Left, TakesInOrder}
 use Rattle.script_agreement.proofs.MachineOrder.{same_request}

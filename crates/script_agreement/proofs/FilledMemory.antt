@@ -8,7 +8,7 @@ use Rattle.std.proofs.lemmas.Bool.Decides.{nat_tests}
 use Rattle.std.proofs.lemmas.List.{get_or-replicate, get_or_past, length-replicate, length-take-le, length-take}
 use Rattle.pan_base.specs.Spelling.{is_hex_digit, digit_value}
 use Rattle.pan_base.specs.Words.{IsBytes}
-use Rattle.riscv_isa.specs.Machine.{IsLawfulMemory}
+use Rattle.pan_base.specs.Lawful.{IsLawfulMemory}
 use Rattle.device_script.specs.declared.error.Cause.{Cause}
 use Rattle.device_script.specs.declared.error.Cause.TheVariants as cause
 use Rattle.device_script.specs.declared.line.Piece.{Piece}

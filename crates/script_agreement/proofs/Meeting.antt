@@ -5,7 +5,8 @@ use Rattle.std.proofs.lemmas.List.{append-nil}
 use Rattle.std.proofs.lemmas.Bool.{false≢true}
 use Rattle.pan_base.specs.Events.{Asked, Replied, Event, Ending, Asks, Spent, Stack, Fails, Behaviour, IsPrefix}
 use Rattle.pan_control.specs.Seen.{Seen}
-use Rattle.pan_port.specs.Drive.{Gives, AreGiven}
+use Rattle.pan_port.specs.Device.{Gives}
+use Rattle.pan_port.specs.Drive.{AreGiven}
 use Rattle.pan_agree.specs.Agree.{Overflows}
 use Rattle.riscv_isa.specs.Running.{IsSteady}
 use Rattle.script_agreement.specs.Given.{is_whole, Concur}

@@ -2,10 +2,11 @@
 
 ghost use Rattle.std.specs.Prelude.{◌≡◌, ◌≢◌, ℕ, ◌%◌, ◌≤◌, List, Ok};
 ghost use Rattle.pan_base.specs.Events.{Replied, Fails};
+ghost use Rattle.pan_base.specs.Lawful.{IsLawfulMemory, IsLawfulStack};
 ghost use Rattle.pan_tree.specs.Meaning.{source};
 ghost use Rattle.pan_tree.specs.declared.program.Program.{Program};
 ghost use Rattle.riscv_isa.specs.Image.{ImageParts, ImageOf};
-ghost use Rattle.riscv_isa.specs.Machine.{machine, IsLawfulMemory, IsLawfulStack};
+ghost use Rattle.riscv_isa.specs.Machine.{machine};
 ghost use Rattle.pan_agree.specs.Faithful.{Faithful};
 ghost use Rattle.device_script.specs.Script.{Content, script_of_file};
 ghost use Rattle.device_script.specs.Memory.{filled};

@@ -1,7 +1,7 @@
 //! The image of code that has no names and no bound.
 
 ghost use Rattle.std.specs.Prelude.{IfOk};
-ghost use Rattle.riscv_isa.specs.Image.{IsLawfulImage, ImageOf};
+ghost use Rattle.riscv_isa.specs.Image.{IsLawfulCode, ImageOf};
 ghost use Rattle.straight_compiler.specs.Alone.{alone};
 
 use image_file::write_image;
@@ -11,7 +11,7 @@ use std::alloc::Global;
 
 /// The image of this code.
 pub fn image_of(alloc: Global, code: Vec<u8>) -> Result<Blob, NoMemory>
-    requires { IsLawfulImage (alone code.items) }
+    requires { IsLawfulCode code.items }
     ensures { IfOk result (λ image. ImageOf image (alone code.items)) }
 {
     let code = Code {

@@ -6,7 +6,5 @@ mod constants;
 mod evaluating;
 mod generating;
 mod layout;
-#[cfg(test)]
-mod tests;
 
 pub use compiling::compile;

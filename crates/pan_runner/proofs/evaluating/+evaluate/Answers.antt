@@ -3,7 +3,7 @@ use Rattle.std.specs.Prelude.{option_map, IfOk}
 use Rattle.pan_tree.specs.Value.{Value as Meant, Word, part_of_part}
 use Rattle.pan_tree.specs.Meaning.{as_word}
 use Rattle.pan_runner.specs.Told.{told, all_told}
-use Rattle.pan_runner.specs.Slots.{chain}
+use Rattle.source_resolver.specs.Slots.{chain}
 use Rattle.pan_runner.specs.Evaluating.{term, loaded}
 use Rattle.pan_runner.proofs.ToldLayers.{part_of_none}
 use Rattle.pan_runner.proofs.GivingLayers.{variable_is, struct_is, struct_no_word, field_is, load_is, number_word, load_byte_word, neg_word, chain_word, shift_word, compare_word}
