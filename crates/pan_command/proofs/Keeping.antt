@@ -16,6 +16,7 @@ use Rattle.pan_command.proofs.MeaningCompleteness as meaning
 
 pub compile_keeps : (source image : List ℕ) (call : Call) (s : Status) → CompileEnds source image call s → CompileKeeps source image call (code s)
 compile_keeps source image call s h = record {
+  ends = (s, refl, h);
   writes = compiling.compiled_at call source image s h;
   unread = compiling.unread_at call source image s h;
   refused = compiling.refused_at call source image s h;

@@ -19,7 +19,7 @@ use Rattle.pan_command.specs.Served.{IsServed, IsRefusedFor, source_line}
 use Rattle.pan_command.specs.Status.{code, end_code, IsCompileCode}
 use Rattle.pan_command.specs.Playing.{Plays}
 use Rattle.pan_command.specs.Reading.{FileUnread, script_line}
-use Rattle.pan_command.specs.Compile.{Compiled, CompileRefused, CompileStarved}
+use Rattle.pan_command.specs.Compile.{Compiled, CompileRefused, CompileStarved, CompileEnds}
 use Rattle.pan_command.specs.Check.{CheckEnds, weight_line}
 use Rattle.pan_command.specs.Run.{RunEnds, image_goes, image_line}
 use Rattle.pan_command.specs.Meaning.{MeaningEnds, source_goes}
@@ -31,7 +31,10 @@ use Rattle.pan_command.specs.Meaning.{MeaningEnds, source_goes}
 abbrev pub OrStarved : ℕ → Type 0 → Type 0
 OrStarved status Answer = Answer ⊎ (status ≡ 8)
 
+-- what is promised of `compile`
 pub record CompileKeeps (source image : List ℕ) (call : Call) (status : ℕ) : Type 0 where
+  -- it ends in one of its ways; the next clauses say the chief of them by their status
+  pub ends : (s : Status) × (status ≡ code s) × CompileEnds source image call s
   -- the image file has an image that is faithful to the program of the source, and the line of its bound is put
   pub writes : status ≡ 0 → Compiled (IsPut call) call source image
   -- a read of the source failed, or there is no such file where files are told
@@ -49,6 +52,7 @@ pub record CompileKeeps (source image : List ℕ) (call : Call) (status : ℕ) :
       → Has files source (λ bytes. IsRefusedFor bytes reason) → OrStarved status ((status ≡ 4) × IsPut call (source_line reason))
   pub missing : (files : Files) → IsUndisturbed call files → files source ≡ None → OrStarved status (status ≡ 3)
 
+-- what is promised of `check`
 pub record CheckKeeps (source : List ℕ) (call : Call) (status : ℕ) : Type 0 where
   -- it ends in one of its ways, and no file changes
   pub ends : (s : Status) × (status ≡ code s) × CheckEnds source call s
@@ -59,6 +63,7 @@ pub record CheckKeeps (source : List ℕ) (call : Call) (status : ℕ) : Type 0 
       → Has files source (λ bytes. Unchecked bytes reason) → OrStarved status ((status ≡ 4) × IsPut call (source_line (Source reason)))
   pub missing : (files : Files) → IsUndisturbed call files → files source ≡ None → OrStarved status (status ≡ 3)
 
+-- what is promised of `run`
 pub record RunKeeps (options : Options) (image script : List ℕ) (call : Call) (status : ℕ) : Type 0 where
   -- it ends in one of its ways, and no file changes
   pub ends : (s : Status) × (status ≡ code s) × RunEnds options image script call s
@@ -78,6 +83,7 @@ pub record RunKeeps (options : Options) (image script : List ℕ) (call : Call) 
   pub script_missing : (files : Files) (parts : ImageParts) → IsUndisturbed call files
       → Has files image (λ bytes. ImageOf bytes parts) → files script ≡ None → OrStarved status (status ≡ 3)
 
+-- what is promised of `meaning`
 pub record MeaningKeeps (options : Options) (source script : List ℕ) (call : Call) (status : ℕ) : Type 0 where
   -- it ends in one of its ways, and no file changes
   pub ends : (s : Status) × (status ≡ code s) × MeaningEnds options source script call s
