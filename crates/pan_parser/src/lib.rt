@@ -15,5 +15,5 @@ mod statements;
 mod text;
 
 pub use error::ParseError;
-pub use laws::one_tree;
+pub use laws::{one_answer, one_tree};
 pub use parsing::parse;
