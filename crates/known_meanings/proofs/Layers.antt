@@ -1,5 +1,5 @@
 -- The equations of the meaning and of the weights, at the variants of the known programs.
-use Rattle.std.proofs.Common.{◌≡◌, ℕ, List, ◌∷◌, sym, ap, ◌∙◌}
+use Rattle.std.proofs.Common.{◌≡◌, ℕ, List, sym, ap, ◌∙◌}
 use Rattle.pan_base.specs.declared.operators.BinOp.{BinOp}
 use Rattle.pan_tree.specs.Running.{World, Callee}
 use Rattle.pan_tree.specs.Value.{Value}

@@ -6,7 +6,6 @@ use Rattle.pan_base.specs.Words.{operate}
 use Rattle.pan_base.specs.Events.{Event, Replied, only, Exit}
 use Rattle.pan_control.specs.Control.{Normal, Returned, Raised}
 use Rattle.pan_tree.specs.Running.{World, Outcome, Callee}
-use Rattle.pan_control.specs.Seen.{Seen}
 use Rattle.std.specs.Prelude.{codes}
 use Rattle.pan_tree.specs.Check.{cost}
 use Rattle.pan_tree.specs.Scopes.{declare}

@@ -12,8 +12,6 @@ use Rattle.pan_tree.specs.declared.syntax.StmtKind.TheVariants as stmt
 use Rattle.pan_tree.specs.declared.syntax.Target.{Target}
 use Rattle.pan_tree.specs.declared.syntax.Target.TheVariants as target
 use Rattle.pan_tree.specs.declared.syntax.HandlerOf.{HandlerOf}
-use Rattle.pan_tree.specs.declared.program.Param.{Param}
-use Rattle.pan_tree.specs.declared.program.Exception.{Exception}
 use Rattle.pan_tree.specs.declared.program.Function.{Function}
 use Rattle.pan_tree.specs.declared.program.Program.{Program}
 
