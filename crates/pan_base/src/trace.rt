@@ -48,29 +48,33 @@ fn bits_of(size: Size) -> &'static [u8]
     }
 }
 
-/// How many bytes of a line are put at once.
-const ROOM: usize = 4096;
+/// The room for a line without buffers, which fits in it.
+const SHORT: usize = 64;
+
+/// The room for a line with buffers: how many bytes of it are put at once.
+const LONG: usize = 4096;
 
 /// The end of a line that isn't put yet.
 #[derive(Drop)]
-struct Line {
+struct Line<const ROOM: usize> {
     bytes: [u8; ROOM],
     count: usize,
 }
 
-impl Model for Line {
+impl<const ROOM: usize> Model for Line<ROOM> {
     ghost use Rattle.std.specs.Prelude.{ℕ, ◌≤◌, List, take};
 
     ghost Value = { List ℕ };
 
     ghost view = { λ line. take line.count line.bytes };
 
-    ghost invariant = { λ line. line.count ≤ 4096 };
+    ghost invariant = { λ line. (line.count ≤ ROOM) × (ROOM ≤ 4096) };
 }
 
-impl Line {
+impl<const ROOM: usize> Line<ROOM> {
     /// No byte.
-    fn new() -> Line
+    fn new() -> Self
+        requires { ROOM ≤ 4096 }
         ensures { result ≡ [] }
     {
         Line {
@@ -110,12 +114,13 @@ impl Line {
 
     /// Holds some text back.
     fn hold(&mut self, text: &[u8])
-        requires { length self.old + length text.now ≤ 4096 }
+        requires { length self.old + length text.now ≤ ROOM }
         ensures { self.new ≡ self.old ++ text.now }
     {
-        let end = self.count + text.len();
-        self.bytes[self.count..end].copy_from_slice(text);
-        self.count = end;
+        let from = self.count;
+        let room = &mut self.bytes[..];
+        room[from..from + text.len()].copy_from_slice(text);
+        self.count = from + text.len();
     }
 
     /// Goes on by bytes as two hexadecimal digits each.
@@ -168,12 +173,16 @@ enum Piece<'a> {
     Buffer(&'a [u8]),
 }
 
-/// Puts the parts one after another, at once where they are no longer than 4,096 bytes.
-fn put_pieces<O: Sink>(out: &mut O, pieces: &[Piece<'_>]) -> Result<(), SinkFault>
+/// Puts the parts one after another, at once where they are no longer than the room.
+fn put_pieces<const ROOM: usize, O: Sink>(
+    out: &mut O,
+    pieces: &[Piece<'_>],
+) -> Result<(), SinkFault>
+    requires { ROOM ≤ 4096 }
     ensures took { PutsAll (O.state out.old) (O.state out.new) result (flat_map piece_text pieces.now) }
     ensures cause { HasCause (O.state out.old).faults (O.state out.new).faults result }
 {
-    let mut line = Line::new();
+    let mut line = Line::<ROOM>::new();
     for piece in pieces {
         line.add_piece(out, *piece)?;
     }
@@ -191,7 +200,7 @@ fn put_call<'x, O: Sink>(
     ensures took { PutsAll (O.state out.old) (O.state out.new) result (call_line name.now conf.now array.now reply.now) }
     ensures cause { HasCause (O.state out.old).faults (O.state out.new).faults result }
 {
-    put_pieces(
+    put_pieces::<LONG, O>(
         out,
         &[
             Piece::Text(b"call "),
@@ -221,7 +230,7 @@ pub fn write_event<O: Sink>(
     ensures cause { HasCause (O.state out.old).faults (O.state out.new).faults result }
 {
     match (*request, *reply) {
-        (Request::Load { size, addr }, Reply::Value(value)) => put_pieces(
+        (Request::Load { size, addr }, Reply::Value(value)) => put_pieces::<SHORT, O>(
             out,
             &[
                 Piece::Text(b"ld"),
@@ -233,7 +242,7 @@ pub fn write_event<O: Sink>(
                 Piece::Text(b"\n"),
             ],
         ),
-        (Request::Store { size, addr, value }, Reply::Done) => put_pieces(
+        (Request::Store { size, addr, value }, Reply::Done) => put_pieces::<SHORT, O>(
             out,
             &[
                 Piece::Text(b"st"),
@@ -265,7 +274,7 @@ pub fn write_end<O: Sink>(out: &mut O, end: End) -> Result<(), SinkFault>
     ensures cause { HasCause (O.state out.old).faults (O.state out.new).faults result }
 {
     match end {
-        End::Exit(value) => put_pieces(
+        End::Exit(value) => put_pieces::<SHORT, O>(
             out,
             &[
                 Piece::Text(b"exit "),
@@ -273,7 +282,7 @@ pub fn write_end<O: Sink>(out: &mut O, end: End) -> Result<(), SinkFault>
                 Piece::Text(b"\n"),
             ],
         ),
-        End::Uncaught(number) => put_pieces(
+        End::Uncaught(number) => put_pieces::<SHORT, O>(
             out,
             &[
                 Piece::Text(b"uncaught "),
