@@ -5,15 +5,15 @@ use Rattle.pan_stage.specs.Stage.{Face, Stage, StackStage}
 
 -- one function, main
 abbrev pub one_function : Face
-one_function = record { main = 0; functions = [] ∷ []; costs = 64 ∷ []; sites = [] ∷ []; widths = []; foreign_names = []; globals = [] }
+one_function = record { main = 0; functions = [] ∷ []; costs = 64 ∷ []; widths = []; foreign_names = []; globals = [] }
 
 -- a program that ends so after this toll, and whose calls cost so much
 abbrev pub sample : Behaviour → (deepest toll : ℕ) → Stage
-sample b deepest toll = record { face = one_function; meaning = λ m r n. record { behaviour = b; deepest = deepest; toll = toll } }
+sample b deepest toll = record { face = one_function; sites = [] ∷ []; meaning = λ m r n. record { behaviour = b; deepest = deepest; toll = toll } }
 
 -- a program that is out of any stack at once
 abbrev pub without_stack : StackStage
-without_stack = record { face = one_function; meaning = λ size m r n. record { behaviour = only Stack; deepest = 0; toll = 0 } }
+without_stack = record { face = one_function; sites = [] ∷ []; meaning = λ size m r n. record { behaviour = only Stack; deepest = 0; toll = 0 } }
 
 -- a machine that exits with 0 in its step after so many
 abbrev pub exits_after : ℕ → ℕ → Behaviour

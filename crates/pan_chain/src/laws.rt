@@ -4,13 +4,13 @@ ghost use Rattle.std.specs.Prelude.{ℕ, List};
 ghost use Rattle.pan_base.specs.Events.{Replied};
 ghost use Rattle.pan_base.specs.Lawful.{IsLawfulMemory, IsLawfulStack};
 ghost use Rattle.pan_control.specs.Seen.{Seen};
-ghost use Rattle.pan_stage.specs.Stage.{Face, Stage, Keeps, StackStage, KeepsOverStack, StepStage, KeepsInSteps, InSteps, Executes, RunsInSteps};
+ghost use Rattle.pan_stage.specs.Stage.{Site, Face, Stage, Keeps, StackStage, KeepsOverStack, StepStage, KeepsInSteps, InSteps, Executes, RunsInSteps};
 ghost use Rattle.pan_tree.specs.Meaning.{source};
 ghost use Rattle.pan_tree.specs.declared.program.Program.{Program};
 ghost use Rattle.riscv_isa.specs.Image.{ImageParts, ImageOf};
 ghost use Rattle.pan_agree.specs.Laws.{ForwardWithin};
 ghost use Rattle.pan_agree.specs.Faithful.{Faithful};
-ghost use Rattle.pan_chain.specs.Whole.{most, source_stage, machine_of};
+ghost use Rattle.pan_chain.specs.Whole.{most_instructions, source_stage, machine_of};
 
 use pan_agree::both_ways;
 use pan_tree::source_meets_no_limit;
@@ -25,13 +25,13 @@ pub fn chain()
     ensures frames { (a b : Stage) (c : StackStage) → Keeps a b → KeepsOverStack b c → KeepsOverStack a c }
     ensures lines { (a : Stage) (b : StackStage) (c : StepStage) (machine : InSteps)
         → KeepsOverStack a b → KeepsInSteps b c → Executes c machine → RunsInSteps a machine }
-    ensures within { (face : Face) (first : List ℕ → List Replied → ℕ → Seen) (machine : InSteps)
-        → RunsInSteps (source_stage face first) machine
+    ensures within { (face : Face) (sites : List (List Site)) (first : List ℕ → List Replied → ℕ → Seen) (machine : InSteps)
+        → RunsInSteps (source_stage face sites first) machine
         → (stack : ℕ) (memory : List ℕ) (replies : List Replied) → IsLawfulStack stack → IsLawfulMemory memory
-        → ForwardWithin stack (most (first memory replies)) (first memory replies) (machine stack memory replies) }
-    ensures faithful { (program : Program) (image : List ℕ) (parts : ImageParts) (face : Face)
+        → ForwardWithin stack (most_instructions (first memory replies)) (first memory replies) (machine stack memory replies) }
+    ensures faithful { (program : Program) (image : List ℕ) (parts : ImageParts) (face : Face) (sites : List (List Site))
         (a : Stage) (b : StackStage) (c : StepStage)
-        → Keeps (source_stage face (source program)) a → KeepsOverStack a b → KeepsInSteps b c
+        → Keeps (source_stage face sites (source program)) a → KeepsOverStack a b → KeepsInSteps b c
         → Executes c (machine_of parts) → ImageOf image parts → Faithful program image parts }
 {
     both_ways();

@@ -1,5 +1,5 @@
--- How much the stages above instructions count as done. A step is worth so many instructions and so many bytes of code that each
--- later stage does with them what it makes of the step, with every variable in memory.
+-- How much the stages above instructions count as done: steps. A step allows 16 instructions and 64 bytes of code; the stages below need
+-- no more for it, even where every variable is in memory.
 use Rattle.std.specs.Prelude.{ℕ, ◌*◌}
 use Rattle.pan_control.specs.World.{World, tolled}
 
