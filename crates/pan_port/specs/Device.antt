@@ -43,7 +43,7 @@ pub record Counted (a : Answer) (stops stops' silences silences' : ℕ) : Type 0
 abbrev pub Gives : Type 0 → Type 1
 Gives D = D → Asked → Given → D → Type 0
 
--- to each request one device may give what the other may, and is then what that would be
+-- from both the device may give the same to each request, and come to the same
 pub record Alike {D : Type 0} (gives : Gives D) (a b : D) : Type 0 where
   pub to : (q : Asked) (g : Given) (next : D) → gives a q g next → gives b q g next
   pub from : (q : Asked) (g : Given) (next : D) → gives b q g next → gives a q g next

@@ -3,7 +3,7 @@ use Rattle.std.specs.Prelude.{ℕ, ℤ, pos, negsuc, ◌+◌, ◌-◌, ◌/◌, 
 use Rattle.pan_base.specs.Results.{upper}
 use Rattle.pan_base.specs.Words.{signed}
 
--- an address in code, or near its end
+-- an address in code, whose longest ends at 0x110001000, or up to 0x130000000 behind it
 pub record IsNear (at : ℕ) : Type 0 where
   pub low : 0x100000000 ≤ at
   pub high : at ≤ 0x130000000
