@@ -147,8 +147,9 @@ impl<'a> Runner<'a> {
         Ok(())
     }
 
-    /// Takes a step, where it runs.
-    fn take_step(&mut self) -> Result<(), Halt>
+    /// Does what the phase says, where it runs. Kept apart from the steps of most statements, whose frame is small without it.
+    #[inline(never)]
+    fn follow_phase(&mut self) -> Result<(), Halt>
         ensures config { Comes result (config_of self.new) (stepped (names_of self.old) self.old.program (config_of self.old)) }
         ensures keeps { Keeps self.old self.new }
     {
@@ -164,6 +165,19 @@ impl<'a> Runner<'a> {
                 self.phase = other;
                 Ok(())
             }
+        }
+    }
+
+    /// Takes a step, where it runs.
+    fn take_step(&mut self) -> Result<(), Halt>
+        ensures config { Comes result (config_of self.new) (stepped (names_of self.old) self.old.program (config_of self.old)) }
+        ensures keeps { Keeps self.old self.new }
+    {
+        // the phase of most steps, from which nothing is to be taken
+        if let Phase::Next = self.phase {
+            self.next()
+        } else {
+            self.follow_phase()
         }
     }
 
