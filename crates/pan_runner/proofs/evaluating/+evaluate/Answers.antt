@@ -1,4 +1,4 @@
-use Rattle.std.proofs.Common.{◌≡◌, map, Option, Some, None, refl, ap, sym, ◌∙◌}
+use Rattle.std.proofs.Common.{map, Some, None, refl, ap, sym, ◌∙◌}
 use Rattle.std.specs.Prelude.{option_map, option_and_then}
 use Rattle.pan_base.specs.Words.{negate}
 use Rattle.pan_control.specs.Memory.{byte_at}
