@@ -17,4 +17,5 @@ pub mod SoundPrograms
 pub mod ByStep
 pub mod FailsNothing
 pub mod KeptShapes
+pub mod StepsFail
 pub mod Refusing

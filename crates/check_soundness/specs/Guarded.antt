@@ -22,7 +22,8 @@ use Rattle.pan_tree.specs.declared.program.Program.{Program}
 abbrev pub own_done : {A : Type 0} → StmtKind-F A → check.Doing
 own_done {A} y = check.do_layer (map-StmtKind A check.Doing (λ _. weightless) y)
 
--- what a statement of a function with this result breaks without its blocks, from the shapes that its variables have when it is reached
+-- What a statement of a function with this result breaks without its blocks, from the shapes that its variables have when it is reached.
+-- Not looked at here are whether a `break` or a `continue` stands in a loop, and how many foreign names the program has.
 abbrev pub own_breaks : {A : Type 0} → Program → Shape → StmtKind-F A → Scopes → List Break
 own_breaks p result y v = (own_done y (record { program = p; result = result; in_loop = true }) 0 (record { scopes = shapes v; names = [] })).breaks
 
@@ -103,7 +104,8 @@ module _ (ill halt : Ending) where
   -- What is seen of a program, as `source` says, but a run ends `ill` where it comes to what the check rules out: a statement or a
   -- loop's test that breaks a rule with the shapes that the variables then have, an unknown function or foreign name, a wrong number
   -- of arguments, a body that falls off or returns a value of another shape, or a main that returns no word. It ends `halt` where a
-  -- statement that breaks no rule fails by itself.
+  -- statement that breaks no rule fails by itself. A `break` or a `continue` outside every loop is not found at the statement: the
+  -- body that leaves by one ends `ill`, by `soundly_left`. How many foreign names there are is nowhere looked at.
   abbrev pub guarded : Program → List ℕ → List Replied → ℕ → Seen
   guarded p m r n = seen (word_left (with_sound (function_index (codes "main") p) (start m r n) (λ f. guarded_calls p (suc n) f [] (start m r n))))
 

@@ -30,24 +30,30 @@ pub fn expressions_keep_shapes()
 {}
 
 /// A statement that breaks no rule with the shapes that its variables have when it is reached fails by itself only by a
-/// failing step: an expression's, or of its own at memory or the window.
+/// failing step: an expression's, or of its own at memory or the window. And every statement that makes a failing step, also
+/// one that breaks a rule, fails by itself, with the world as it was.
 pub fn statements_fail_by_steps()
-    ensures { (program : Program) (result : Shape) (statement : StmtKind-F Does) (variables : Scopes) (world end : World)
+    ensures only { (program : Program) (result : Shape) (statement : StmtKind-F Does) (variables : Scopes) (world end : World)
         → breaks_nothing program result statement variables ≡ true
         → alone program statement variables world ≡ Over Fails end
         → FailsByStep variables world.memory statement }
+    ensures always { (program : Program) (statement : StmtKind-F Does) (variables : Scopes) (world : World)
+        → FailsByStep variables world.memory statement
+        → alone program statement variables world ≡ Over Fails world }
 {}
 
-/// In no run of a program that keeps every rule is there anything else than the check says, whatever end that were to
-/// have, and it fails only where a statement that breaks no rule fails by itself.
+/// A run of a program that keeps every rule comes to nothing that the check rules out, and fails only where a statement that
+/// breaks no rule fails by itself. Said with two ends, `ill` and `halt`, which may be any: if runs ended `ill` where they come
+/// to what the check rules out, and `halt` where such a statement fails by itself, then what is seen of this program would be
+/// the same but for `halt` in the place of `Fails`.
 pub fn checked_programs_are_guarded()
     ensures { (ill halt : Ending) (program : Program) (memory : List ℕ) (replies : List Replied) (fuel : ℕ)
         → IsWellShaped program
         → guarded ill halt program memory replies fuel ≡ seen_so halt (source program memory replies fuel) }
 {}
 
-/// From variables of the shapes that the check knows, a statement is as much work without its blocks as it weighs so by the
-/// check, and each further test of a loop as much as the condition weighs.
+/// Where variables have the shapes that the check knows, the work of a statement is the weight that the check gives it, both
+/// without the statement's blocks; and the work of each further test of a loop is the weight of the loop's condition.
 pub fn work_is_weight()
     ensures statement { (context : Context) (place : ℕ) (state : State) (statement : StmtKind-F StmtKind) (variables : Scopes)
         → HaveShapes state.scopes variables
