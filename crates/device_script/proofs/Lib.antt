@@ -2,6 +2,7 @@ pub mod CuttingLemmas
 pub mod HexLemmas
 pub mod PlaceLemmas
 pub mod StepLemmas
+pub mod QuietLemmas
 pub mod IndexLemmas
 pub mod MemoryLemmas
 pub mod SayingLemmas

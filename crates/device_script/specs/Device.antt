@@ -1,8 +1,7 @@
 -- What a script device gives.
 use Rattle.std.specs.Prelude.{◌≡◌, ℕ, List}
-use Rattle.pan_base.specs.Counts.{next_count}
-use Rattle.pan_base.specs.Events.{Asked, Stop}
-use Rattle.pan_port.specs.Device.{Given, Gave, Silent}
+use Rattle.pan_base.specs.Events.{Asked}
+use Rattle.pan_port.specs.Device.{Given}
 use Rattle.device_script.specs.declared.rules.Rule.{Rule}
 use Rattle.device_script.specs.Rules.{step}
 
@@ -12,12 +11,6 @@ pub record DeviceState : Type 0 where
   pub stops : ℕ
   pub silences : ℕ
 
--- with an answer counted
-abbrev pub counted : Given → DeviceState → DeviceState
-counted (Gave Stop) s = record s { stops = next_count s.stops }
-counted (Gave _) s = s
-counted Silent s = record s { silences = next_count s.silences }
-
--- the rules make a step, and what they give is counted
+-- the rules give this, and are then those of the step
 abbrev pub Steps : DeviceState → Asked → Given → DeviceState → Type 0
-Steps old q g new = (g ≡ (step old.rules q).0) × (new ≡ counted g (record old { rules = (step old.rules q).1 }))
+Steps old q g new = (g ≡ (step old.rules q).0) × (new.rules ≡ (step old.rules q).1)

@@ -5,5 +5,6 @@ pub mod Memory
 pub mod Saying
 pub mod Script
 pub mod Device
+pub mod Runs
 pub mod Told
 pub mod Index

@@ -17,9 +17,9 @@ Tells (Err (error.Wrong c)) said = said ≡ Err c
 Tells (Err error.NoMemory) said = Unit {0}
 
 -- the error tells the file's first line that fits no rule; want of memory tells nothing
-abbrev pub Refuses : ScriptError → Result Content Refusal → Type 0
-Refuses (script.Line n c) file = file ≡ Err (record { line = n; cause = c })
-Refuses script.NoMemory file = Unit {0}
+abbrev pub TellsRefusal : ScriptError → Result Content Refusal → Type 0
+TellsRefusal (script.Line n c) file = file ≡ Err (record { line = n; cause = c })
+TellsRefusal script.NoMemory file = Unit {0}
 
 -- why digits give no bytes
 abbrev pub hex_refusal : FromHexError → LineError

@@ -8,7 +8,6 @@ ghost use Rattle.device_script.specs.Rules.{answers_load, answers_store, answers
 ghost use Rattle.device_script.specs.Script.{is_taken};
 
 use crate::rules::Rule;
-use crate::words::bytes_in;
 use pan_base::{NoMemory, Size};
 use std::alloc::Global;
 use std::collections::BTreeMap;
@@ -26,7 +25,7 @@ pub struct Index {
 fn find(map: &BTreeMap<(u64, u64), usize>, size: Size, addr: u64) -> Option<usize>
     ensures { result ≡ at_access map.now (byte_count size) addr }
 {
-    map.get(&(bytes_in(size), addr)).copied()
+    map.get(&(size.bytes(), addr)).copied()
 }
 
 impl Index {
@@ -84,17 +83,17 @@ impl Index {
     {
         match rule {
             Rule::Register { size, addr, .. } => {
-                self.loads.insert((bytes_in(*size), *addr), at)?;
-                self.stores.insert((bytes_in(*size), *addr), at)?;
+                self.loads.insert((size.bytes(), *addr), at)?;
+                self.stores.insert((size.bytes(), *addr), at)?;
             }
             Rule::Queue { size, addr, .. } => {
-                self.loads.insert((bytes_in(*size), *addr), at)?;
+                self.loads.insert((size.bytes(), *addr), at)?;
             }
             Rule::Counter { size, addr, .. } => {
-                self.loads.insert((bytes_in(*size), *addr), at)?;
+                self.loads.insert((size.bytes(), *addr), at)?;
             }
             Rule::Collector { size, addr, .. } => {
-                self.stores.insert((bytes_in(*size), *addr), at)?;
+                self.stores.insert((size.bytes(), *addr), at)?;
             }
             Rule::Foreign { name, .. } => {
                 self.calls

@@ -2,7 +2,7 @@
 
 ghost use Rattle.std.specs.Prelude.{◌≡◌, ◌⊎◌, Err, Ok, IfOk, IfErr};
 ghost use Rattle.device_script.specs.Script.{Content, Refusal, script_of_file};
-ghost use Rattle.device_script.specs.Told.{Refuses};
+ghost use Rattle.device_script.specs.Told.{TellsRefusal};
 
 use crate::cutting::next_line;
 use crate::error::{LineError, ScriptError};
@@ -35,7 +35,7 @@ use std::alloc::Global;
 /// The number of the first line that is none of these, and why; or want of memory.
 pub fn read_script(alloc: Global, bytes: &[u8]) -> Result<Script, ScriptError>
     ensures says { IfOk result (λ script. script_of_file bytes.now ≡ Ok script) }
-    ensures refused { IfErr result (λ e. Refuses e (script_of_file bytes.now)) }
+    ensures refused { IfErr result (λ e. TellsRefusal e (script_of_file bytes.now)) }
     ensures exact_script { (s : Content) → script_of_file bytes.now ≡ Ok s
         → (result ≡ Ok s) ⊎ (result ≡ Err ScriptError.NoMemory) }
     ensures exact_refusal { (r : Refusal) → script_of_file bytes.now ≡ Err r

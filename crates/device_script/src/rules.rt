@@ -1,7 +1,6 @@
 //! Rules, with what each keeps.
 
-ghost use Rattle.std.specs.Prelude.{◌≡◌, ◌+◌, ◌%◌, ◌^◌, ◌*◌, [], ◌∷◌, ◌++◌, map, OnOk, MatchOption};
-ghost use Rattle.pan_base.specs.Events.{byte_count};
+ghost use Rattle.std.specs.Prelude.{◌≡◌, ◌+◌, ◌%◌, [], ◌∷◌, ◌++◌, map, OnOk, MatchOption};
 ghost use Rattle.pan_port.specs.Device.{given, given_by_array};
 ghost use Rattle.device_script.specs.Rules.{answer_load, answer_store, answer_call, call_given};
 
@@ -99,18 +98,6 @@ pub enum Rule {
     },
 }
 
-/// What the size holds of the value.
-fn truncated(value: u64, size: Size) -> u64
-    ensures { result ≡ value % 2 ^ (8 * byte_count size) }
-{
-    match size {
-        Size::B1 => value % (1 << 8),
-        Size::B2 => value % (1 << 16),
-        Size::B4 => value % (1 << 32),
-        Size::B8 => value,
-    }
-}
-
 /// Lets each byte grow by so much, modulo 256.
 fn add_to_each(array: &mut [u8], n: u64)
     ensures { array.new ≡ map (λ b. (b + n) % 256) array.old }
@@ -161,7 +148,7 @@ impl Rule {
             } => {
                 let value = first.wrapping_add(loads.wrapping_mul(*step));
                 *loads = loads.wrapping_add(1);
-                Answer::Value(truncated(value, *size))
+                Answer::Value(size.cut(value))
             }
             _ => Answer::Stop,
         }

@@ -2,7 +2,6 @@
 
 ghost use Rattle.std.specs.Prelude.{◌≡◌, ◌<◌};
 ghost use Rattle.std.specs.List.{list_all};
-ghost use Rattle.pan_base.specs.Events.{byte_count};
 ghost use Rattle.pan_base.specs.Names as names;
 ghost use Rattle.device_script.specs.Saying as saying;
 ghost use Rattle.device_script.specs.Told.{Tells, hex_refusal};
@@ -12,19 +11,6 @@ use hex::FromHexError;
 use numerals::number;
 use pan_base::{Blob, Size};
 use std::alloc::Global;
-
-/// How many bytes an access has.
-pub fn bytes_in(size: Size) -> u64
-    ensures value { result ≡ byte_count size }
-    ensures some { 0 < result }
-{
-    match size {
-        Size::B1 => 1,
-        Size::B2 => 2,
-        Size::B4 => 4,
-        Size::B8 => 8,
-    }
-}
 
 /// A number below 2^64.
 pub fn number_of(word: &[u8]) -> Result<u64, Cause>
@@ -50,7 +36,7 @@ fn size_of(word: &[u8]) -> Result<Size, Cause>
 fn is_address(size: Size, addr: u64) -> bool
     ensures { result ≡ saying.is_address size addr }
 {
-    let count = bytes_in(size);
+    let count = size.bytes();
     addr % count == 0 && addr >= 0x4000_0000 && addr <= 0x8000_0000 - count
 }
 

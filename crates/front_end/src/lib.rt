@@ -2,9 +2,9 @@
 #![tactic(auto)]
 
 mod error;
+mod laws;
 mod reading;
-#[cfg(test)]
-mod tests;
 
 pub use error::SourceError;
+pub use laws::one_reading;
 pub use reading::read_program;

@@ -99,7 +99,7 @@ assemble bytes head part pad code n p c eh en ep ec le =
 
 -- bytes without a fault are the image of their parts
 pub is_image : (bytes : List ℕ) (names : List (List ℕ)) (left : List ℕ) → IsBytes bytes → first_fault (header_tests bytes) ≡ None → names_at (header_of bytes).name_count (names_bytes bytes) ≡ Some (names, left)
-    → are_foreign_names names ≡ true → first_fault (tests_of_end bytes) ≡ None → ImageOf bytes (code_bytes bytes) names (bound_in (header_of bytes).bound)
+    → are_foreign_names names ≡ true → first_fault (tests_of_end bytes) ≡ None → ImageOf bytes (record { code = code_bytes bytes; names = names; bound = bound_in (header_of bytes).bound })
 is_image bytes names left fits header_none at lawful end_none =
     let h = header_of bytes in
     let r = header_is_right bytes header_none in

@@ -8,3 +8,4 @@ pub mod ImageLaws
 pub mod WrittenLaws
 pub mod ReadLaws
 pub mod Complete
+pub mod Faultless

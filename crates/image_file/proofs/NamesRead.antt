@@ -10,7 +10,8 @@ use Rattle.std.specs.Str.{bytes_eq}
 use Rattle.std.proofs.lemmas.List.Folds.{list_any-append}
 use Rattle.std.proofs.lemmas.Map.Text.{is_eq-slice_cmp}
 use denote.Ref.{Bor}
-use Rattle.riscv_isa.specs.Image.{is_foreign_name, are_foreign_names}
+use Rattle.pan_base.specs.Names.{is_short_foreign_name}
+use Rattle.riscv_isa.specs.Image.{are_foreign_names}
 use Rattle.image_file.specs.declared.error.ImageError.TheVariants.{BadName}
 use Rattle.image_file.specs.Faults.{first_fault, name_tests, is_bad_name}
 use Rattle.image_file.specs.Fields.{front_name, names_at}
@@ -41,13 +42,13 @@ ends_short part count i names rest h lt e =
     let bad : is_bad_name part i ≡ true = rw (names_after part i names rest h.at, e) refl in bad_here part count i names rest h lt bad
 
 pub ends_unlawful : (part : List ℕ) (count i : ℕ) (names : List (List ℕ)) (rest name after : List ℕ) → HasRead part count i names rest → i < count → front_name rest ≡ Some (name, after)
-    → (is_foreign_name name && not (list_any (λ other. bytes_eq other name) names)) ≡ false → first_fault (name_tests part 0 count) ≡ Some (BadName i)
+    → (is_short_foreign_name name && not (list_any (λ other. bytes_eq other name) names)) ≡ false → first_fault (name_tests part 0 count) ≡ Some (BadName i)
 ends_unlawful part count i names rest name after h lt e unlawful =
     let bad : is_bad_name part i ≡ true = rw (names_after part i names rest h.at, e, are_foreign_names-push names name, h.lawful, unlawful) refl in bad_here part count i names rest h lt bad
 
 -- the next name is lawful
 pub goes_on : (part : List ℕ) (count i : ℕ) (names : List (List ℕ)) (rest name after : List ℕ) → HasRead part count i names rest → i < count → front_name rest ≡ Some (name, after)
-    → (is_foreign_name name && not (list_any (λ other. bytes_eq other name) names)) ≡ true → HasRead part count (i + 1) (names ++ name ∷ []) after
+    → (is_short_foreign_name name && not (list_any (λ other. bytes_eq other name) names)) ≡ true → HasRead part count (i + 1) (names ++ name ∷ []) after
 goes_on part count i names rest name after h lt e lawful =
     let k : count - i ≡ suc (count - (i + 1)) = omega arith in
     let more : are_foreign_names (names ++ name ∷ []) ≡ true = rw (are_foreign_names-push names name, h.lawful, lawful) refl in

@@ -28,6 +28,6 @@ module _ (bytes : List ℕ) (h : Header) (right : first_fault (header_tests byte
   end_fault names left found at none is = at_end bytes found right (rw (← s.names_are, ← header_is) none) (end_is names left found at is)
 
   pub image_found : (names : List (List ℕ)) (left : List ℕ) → IsBytes bytes → names_at h.name_count part ≡ Some (names, left) → are_foreign_names names ≡ true
-      → None ≡ first_fault (end_tests left padding tail) → ImageOf bytes code names (bound_in h.bound)
+      → None ≡ first_fault (end_tests left padding tail) → ImageOf bytes (record { code = code; names = names; bound = bound_in h.bound })
   image_found names left fits at lawful is =
       rw (s.code_is, header_is) (is_image bytes names left fits right (rw (← s.names_are, ← header_is) at) lawful (end_is names left None at is))

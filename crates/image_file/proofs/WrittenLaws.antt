@@ -4,7 +4,7 @@ use Rattle.std.specs.List.{list_any, starts_with}
 use Rattle.std.specs.Option.{unwrap_or, ForSome}
 use Rattle.std.proofs.lemmas.Bool.{ne_eqb}
 use Rattle.std.proofs.lemmas.List.{append-nil, take_all, take_at, drop_all, drop_at, drop-drop, length-append, length-replicate}
-use Rattle.riscv_isa.specs.Image.{IsLawfulImage, ImageOf, layout, names_part, are_foreign_names}
+use Rattle.riscv_isa.specs.Image.{ImageParts, IsLawfulImage, ImageOf, layout, names_part, are_foreign_names}
 use Rattle.image_file.specs.Faults.{first_fault, name_tests, fault_of}
 use Rattle.image_file.specs.Fields.{header_of, padding, size, names_bytes, padding_bytes, code_bytes, tail_bytes, names_at, left_after}
 use Rattle.image_file.specs.Split.{header, bound_in}
@@ -14,10 +14,10 @@ use Rattle.image_file.proofs.ImageLaws.{IsRight, right_header}
 use Rattle.image_file.proofs.NameLaws.{names_again, some_is}
 
 -- the bytes are read as these parts, and nothing is wrong with them
-pub record Reads (bytes code : List ℕ) (names : List (List ℕ)) (bound : Option ℕ) : Type 0 where
-  pub code_is : code_bytes bytes ≡ code
-  pub names_are : names_at (header_of bytes).name_count (names_bytes bytes) ≡ Some (names, [])
-  pub bound_is : bound_in (header_of bytes).bound ≡ bound
+pub record Reads (bytes : List ℕ) (parts : ImageParts) : Type 0 where
+  pub code_is : code_bytes bytes ≡ parts.code
+  pub names_are : names_at (header_of bytes).name_count (names_bytes bytes) ≡ Some (parts.names, [])
+  pub bound_is : bound_in (header_of bytes).bound ≡ parts.bound
   pub right : fault_of bytes ≡ None
 
 none_other : (n : ℕ) → list_any (λ b. not (eqb b 0)) (replicate n 0) ≡ false
@@ -44,8 +44,11 @@ names_back names lawful =
     let k : 0 + length names ≡ length names = omega arith in
     (rw k at all.0, all.1)
 
-reads_layout : (bytes code : List ℕ) (names : List (List ℕ)) (bound : Option ℕ) → IsLawfulImage code names bound → bytes ≡ layout code names bound → Reads bytes code names bound
-reads_layout bytes code names bound l spelled =
+reads_layout : (bytes : List ℕ) (parts : ImageParts) → IsLawfulImage parts → bytes ≡ layout parts → Reads bytes parts
+reads_layout bytes parts l spelled =
+    let code = parts.code in
+    let names = parts.names in
+    let bound = parts.bound in
     let part = names_part names in
     let n = length part in
     let pad : List ℕ = replicate (padding n) 0 in
@@ -79,14 +82,15 @@ reads_layout bytes code names bound l spelled =
       right = at_end bytes None (right_header bytes right) no_name end;
     }
 
-pub image_reads : (bytes code : List ℕ) (names : List (List ℕ)) (bound : Option ℕ) → ImageOf bytes code names bound → Reads bytes code names bound
-image_reads bytes code names bound image = reads_layout bytes code names bound image.lawful image.spelled
+pub image_reads : (bytes : List ℕ) (parts : ImageParts) → ImageOf bytes parts → Reads bytes parts
+image_reads bytes parts image = reads_layout bytes parts image.lawful image.spelled
 
 -- one row of bytes is one image
-pub same_image : (bytes code code' : List ℕ) (names names' : List (List ℕ)) (bound bound' : Option ℕ) → ImageOf bytes code names bound → ImageOf bytes code' names' bound'
-    → (code ≡ code') × (names ≡ names') × (bound ≡ bound')
-same_image bytes code code' names names' bound bound' a b =
-    let r = image_reads bytes code names bound a in
-    let s = image_reads bytes code' names' bound' b in
-    let both : names ≡ names' = ap (λ (p : List (List ℕ) × List ℕ). p.0) (some_is (names, []) (names', []) (sym r.names_are ∙ s.names_are)) in
-    (sym r.code_is ∙ s.code_is, both, sym r.bound_is ∙ s.bound_is)
+pub same_image : (bytes : List ℕ) (parts others : ImageParts) → ImageOf bytes parts → ImageOf bytes others → parts ≡ others
+same_image bytes parts others a b =
+    let r = image_reads bytes parts a in
+    let s = image_reads bytes others b in
+    let code : parts.code ≡ others.code = sym r.code_is ∙ s.code_is in
+    let names : parts.names ≡ others.names = ap (λ (p : List (List ℕ) × List ℕ). p.0) (some_is (parts.names, []) (others.names, []) (sym r.names_are ∙ s.names_are)) in
+    let bound : parts.bound ≡ others.bound = sym r.bound_is ∙ s.bound_is in
+    λ i. record { code = code i; names = names i; bound = bound i }

@@ -1,8 +1,9 @@
--- What an image holds.
-use Rattle.std.specs.Prelude.{ℕ, List, Option}
+-- The parts of an image to be written.
+use Rattle.std.specs.Prelude.{ℕ, Option}
+use Rattle.riscv_isa.specs.declared.code.Code.{Code}
+use Rattle.riscv_isa.specs.declared.code.Names.{Names}
+use Rattle.riscv_isa.specs.Image.{ImageParts}
 
--- the code, the names of foreign functions by number, and the bound, if it has one
-pub record ImageParts : Type 0 where
-  pub code : List ℕ
-  pub names : List (List ℕ)
-  pub bound : Option ℕ
+-- linked code, the names of foreign functions that it calls, and a bound
+abbrev pub parts_of : Code → Names → Option ℕ → ImageParts
+parts_of code names bound = record { code = code.bytes; names = names.list; bound = bound }

@@ -1,6 +1,6 @@
 //! An image that was read.
 
-ghost use Rattle.std.specs.Prelude.{◌≡◌, ◌<◌, length, get_or, slice_index_or, []};
+ghost use Rattle.std.specs.Prelude.{◌≡◌, ◌<◌, length, slice_index_or, []};
 ghost use Rattle.riscv_isa.specs.Image.{IsLawfulImage};
 
 use pan_base::{Blob, List};
@@ -15,20 +15,19 @@ pub struct Image {
 }
 
 impl Model for Image {
-    ghost use Rattle.image_file.specs.Parts.{ImageParts};
-    ghost use Rattle.riscv_isa.specs.Image.{IsLawfulImage};
+    ghost use Rattle.riscv_isa.specs.Image.{ImageParts, IsLawfulImage};
 
     ghost Value = { ImageParts };
 
     ghost view = { λ i. record { code = i.code; names = i.names; bound = i.bound } };
 
-    ghost invariant = { λ i. IsLawfulImage i.code i.names i.bound };
+    ghost invariant = { λ i. IsLawfulImage (record { code = i.code; names = i.names; bound = i.bound }) };
 }
 
 impl Image {
     /// The image of these parts.
     pub(crate) fn new(code: Blob, names: List<Blob>, bound: Option<u64>) -> Image
-        requires { IsLawfulImage code names bound }
+        requires { IsLawfulImage (record { code = code; names = names; bound = bound }) }
         ensures { result ≡ record { code = code; names = names; bound = bound } }
     {
         Image { code, names, bound }
@@ -37,7 +36,7 @@ impl Image {
     /// The bytes of the code.
     pub fn code(&self) -> &[u8]
         ensures code { result.now ≡ self.now.code }
-        ensures lawful { IsLawfulImage self.now.code self.now.names self.now.bound }
+        ensures lawful { IsLawfulImage self.now }
     {
         self.code.as_slice()
     }

@@ -4,7 +4,8 @@ ghost use Rattle.std.specs.Prelude.{◌≡◌, ◌⊎◌, ◌≤◌, None, Some,
 ghost use Rattle.std.specs.List.{list_all};
 ghost use Rattle.std.specs.Option.{option_map};
 ghost use Rattle.pan_base.specs.Names as names;
-ghost use Rattle.riscv_isa.specs.Image.{is_foreign_name, are_foreign_names};
+ghost use Rattle.pan_base.specs.Names.{is_short_foreign_name};
+ghost use Rattle.riscv_isa.specs.Image.{are_foreign_names};
 ghost use Rattle.image_file.specs.Faults.{first_fault, name_tests};
 ghost use Rattle.image_file.specs.Fields.{front_name, names_at};
 
@@ -44,9 +45,9 @@ fn is_spelled(name: &[u8]) -> bool
 
 /// Whether the bytes may be the name of a foreign function.
 fn is_lawful(name: &[u8]) -> bool
-    ensures { result ≡ is_foreign_name name.now }
+    ensures { result ≡ is_short_foreign_name name.now }
 {
-    is_spelled(name) && name.len() <= 64 && name != b"base".as_slice() && name != b"biw".as_slice()
+    is_spelled(name) && name != b"base".as_slice() && name != b"biw".as_slice() && name.len() <= 64
 }
 
 /// The name at the front of a names part, and the bytes after it.

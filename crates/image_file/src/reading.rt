@@ -1,8 +1,8 @@
 //! Reads images.
 
-ghost use Rattle.std.specs.Prelude.{◌≡◌, ◌≢◌, ◌⊎◌, ◌-◌, ◌≤◌, ◌==◌, not, ℕ, List, Option, None, Some, Ok, Err, IfOk, IfErr, OnOk, length};
+ghost use Rattle.std.specs.Prelude.{◌≡◌, ◌≢◌, ◌⊎◌, ◌-◌, ◌≤◌, ◌==◌, not, None, Some, Ok, Err, IfOk, IfErr, OnOk, length};
 ghost use Rattle.std.specs.List.{list_any};
-ghost use Rattle.riscv_isa.specs.Image.{ImageOf};
+ghost use Rattle.riscv_isa.specs.Image.{ImageParts, ImageOf};
 ghost use Rattle.image_file.specs.Faults.{first_fault, end_tests, fault_of};
 ghost use Rattle.image_file.specs.Fields.{header_of, size};
 ghost use Rattle.image_file.specs.Split.{AreParts, bound_in};
@@ -71,7 +71,7 @@ fn bound_of(word: u64) -> Option<u64>
 
 /// The image that the bytes are.
 fn read(alloc: Global, bytes: &[u8]) -> Result<Image, ImageError>
-    ensures found { IfOk result (λ image. ImageOf bytes.now image.code image.names image.bound) }
+    ensures found { IfOk result (λ image. ImageOf bytes.now image) }
     ensures right { OnOk result (fault_of bytes.now ≡ None) }
     ensures fault { IfErr result (λ e. (e ≡ ImageError.NoMemory) ⊎ (fault_of bytes.now ≡ Some e)) }
 {
@@ -88,7 +88,7 @@ fn read(alloc: Global, bytes: &[u8]) -> Result<Image, ImageError>
 /// The image that the bytes are, or the first fault of theirs. Any bound is lawful; the word 2^64 - 1 stands for none.
 pub fn read_image(alloc: Global, bytes: &[u8]) -> Result<Image, ImageError>
     // What is read is an image, and these are its parts.
-    ensures ok { IfOk result (λ image. ImageOf bytes.now image.code image.names image.bound) }
+    ensures ok { IfOk result (λ image. ImageOf bytes.now image) }
 
     // An error is the first fault, or want of memory; and the first fault is the error, but for want of memory.
     ensures faults { (e : ImageError) → result ≡ Err e → e ≢ ImageError.NoMemory → fault_of bytes.now ≡ Some e }
@@ -96,8 +96,7 @@ pub fn read_image(alloc: Global, bytes: &[u8]) -> Result<Image, ImageError>
         (result ≡ Err e) ⊎ (result ≡ Err ImageError.NoMemory) }
 
     // An image is read as what it is, but for want of memory.
-    ensures complete { (code : List ℕ) (names : List (List ℕ)) (bound : Option ℕ) → ImageOf bytes.now code names bound →
-        (result ≡ Ok (record { code = code; names = names; bound = bound })) ⊎ (result ≡ Err ImageError.NoMemory) }
+    ensures complete { (parts : ImageParts) → ImageOf bytes.now parts → (result ≡ Ok parts) ⊎ (result ≡ Err ImageError.NoMemory) }
 {
     read(alloc, bytes)
 }

@@ -1,9 +1,10 @@
 //! Writes images.
 
 ghost use Rattle.std.specs.Prelude.{◌≡◌, ◌≤◌, ◌<◌, ◌^◌, ◌+◌, ◌-◌, ◌%◌, [], ◌∷◌, ◌++◌, length, replicate, IfOk, OnOk, All};
-ghost use Rattle.std.specs.Option.{unwrap_or};
-ghost use Rattle.riscv_isa.specs.Image.{IsLawfulImage, ImageOf, names_part};
+ghost use Rattle.std.specs.Option.{unwrap_or, ForSome};
+ghost use Rattle.riscv_isa.specs.Image.{ImageOf, names_part};
 ghost use Rattle.image_file.specs.Fields.{padding};
+ghost use Rattle.image_file.specs.Parts.{parts_of};
 ghost use Rattle.image_file.specs.Split.{header};
 
 use crate::header::padding_of;
@@ -73,15 +74,15 @@ fn join(alloc: Global, header: &[u8], part: &[u8], code: &[u8]) -> Result<Blob, 
     Ok(Blob::from_vec(image))
 }
 
-/// The image of this code, with these names and this bound.
+/// The image of this code, with these names and this bound, which is below 2^64 - 1.
 pub fn write_image(
     alloc: Global,
     code: &Code,
     names: &Names,
     bound: Option<u64>,
 ) -> Result<Blob, NoMemory>
-    requires { IsLawfulImage code.now.bytes names.now.list bound }
-    ensures { IfOk result (λ image. ImageOf image code.now.bytes names.now.list bound) }
+    requires { ForSome bound (λ n. n < 2 ^ 64 - 1) }
+    ensures { IfOk result (λ image. ImageOf image (parts_of code.now names.now bound)) }
 {
     let code = code.bytes.as_slice();
     let names = names.list.as_slice();

@@ -1,15 +1,13 @@
 -- From the forward direction to all of the agreement: a law of any source and any machine whose longer runs go on from the shorter ones.
-use Rattle.std.proofs.Common.{◌≡◌, ◌≢◌, ℕ, ◌+◌, ◌-◌, ◌≤◌, ◌<◌, sym, ap, ◌∙◌, subst, List, ◌++◌, append_assoc, arith, inl, inr}
+use Rattle.std.proofs.Common.{◌≡◌, ◌≢◌, ℕ, ◌+◌, ◌-◌, ◌≤◌, ◌<◌, sym, ap, ◌∙◌, subst, List, arith, inl, inr}
 use Rattle.std.specs.Prelude.{◌⊎◌, IsTrue}
 use Rattle.std.proofs.lemmas.Bool.{false≢true}
 use Rattle.pan_base.specs.Events.{Event, Ending, Spent, Stack, Fails, Behaviour, IsPrefix}
 use Rattle.pan_control.specs.Seen.{Seen}
 use Rattle.pan_agree.specs.Agree.{is_real, Overflows, DoesNoMore, Agree}
-use Rattle.pan_agree.specs.Laws.{IsSteady, IsSourceLike, DoesInTime, ForwardInTime}
-use Rattle.pan_agree.proofs.Longer.{prefix_refl}
-
-prefix_trans : (xs ys zs : List Event) → IsPrefix xs ys → IsPrefix ys zs → IsPrefix xs zs
-prefix_trans xs ys zs p q = record { rest = p.rest ++ q.rest; all = q.all ∙ ap (λ t. t ++ q.rest) p.all ∙ append_assoc xs p.rest q.rest }
+use Rattle.pan_tree.specs.Ends.{IsSourceLike}
+use Rattle.riscv_isa.specs.Running.{IsSteady}
+use Rattle.pan_agree.specs.Laws.{DoesInTime, ForwardInTime, ForwardWithin}
 
 -- how one run stands to another of the same machine
 data Stands (a b : Behaviour) (k l : ℕ) : Type 0 where
@@ -17,7 +15,12 @@ data Stands (a b : Behaviour) (k l : ℕ) : Type 0 where
   Same : a ≡ b → Stands a b k l
   Later : b.ending ≡ Spent → l < k → Stands a b k l
 
-module _ (stack : ℕ) (source : ℕ → Seen) (machine : ℕ → Behaviour) (steady : IsSteady machine) (like : IsSourceLike source) (forward : ForwardInTime stack source machine) where
+-- what the crate of traces says of prefixes
+pub record IsOrder : Type 0 where
+  pub reflexive : (xs : List Event) → IsPrefix xs xs
+  pub transitive : (xs ys zs : List Event) → IsPrefix xs ys → IsPrefix ys zs → IsPrefix xs zs
+
+module _ (order : IsOrder) (stack : ℕ) (source : ℕ → Seen) (machine : ℕ → Behaviour) (steady : IsSteady machine) (like : IsSourceLike source) (forward : ForwardInTime stack source machine) where
   up : (k j : ℕ) → Stands (machine k) (machine (k + j)) k (k + j)
   up k j = elim (steady.same k j) [ inl e ↦ Earlier e (steady.front k j) | inr e ↦ Same (sym e) ]
 
@@ -50,13 +53,13 @@ module _ (stack : ℕ) (source : ℕ → Seen) (machine : ℕ → Behaviour) (st
       let same = e ∙ d.same in
       record {
         no_fault = λ f. like.no_fault k (sym (ap (λ (b : Behaviour). b.ending) same) ∙ f);
-        front = (k, subst (λ (b : Behaviour). IsPrefix (machine k).events b.events) same (prefix_refl _));
+        front = (k, subst (λ (b : Behaviour). IsPrefix (machine k).events b.events) same (order.reflexive _));
         same_end = λ real. (k, same);
       }
   no_more k l (inl d) (Later spent less) = absurd (let h : k ≤ l = d.in_time (sym (ap (λ (b : Behaviour). b.ending) d.same) ∙ spent) in omega arith)
   no_more k l (inr o) (Earlier spent front) = record {
     no_fault = λ e. cc;
-    front = (k, prefix_trans _ _ _ front o.front);
+    front = (k, order.transitive _ _ _ front o.front);
     same_end = λ real. absurd (real_spent _ spent real);
   }
   no_more k l (inr o) (Same e) =
@@ -87,3 +90,7 @@ module _ (stack : ℕ) (source : ℕ → Seen) (machine : ℕ → Behaviour) (st
     backward = λ never k. let f = forward k (never k) in no_more k f.0 f.1 (stands k f.0);
     exhausts = λ never k end. let f = forward k (never k) in (k, overflowed k f.0 end f.1 (stands k f.0));
   }
+
+-- what is done within limits is done in time
+pub in_time : (stack : ℕ) (limit : ℕ → ℕ) (source : ℕ → Seen) (machine : ℕ → Behaviour) → ForwardWithin stack limit source machine → ForwardInTime stack source machine
+in_time stack limit source machine f n not_failed = let (k, _, does) = f n not_failed in (k, does)

@@ -1,2 +1,2 @@
-pub mod Longer
 pub mod BothWays
+pub mod WrongMachines

@@ -1,18 +1,8 @@
--- What the law of both directions asks of a source, of a machine, and of the forward direction between them.
-use Rattle.std.specs.Prelude.{◌≡◌, ◌≢◌, ◌⊎◌, ℕ, ◌+◌, ◌≤◌}
-use Rattle.pan_base.specs.Events.{Spent, Stack, Fault, Fails, Behaviour, IsPrefix}
+-- What the law of both directions asks of the forward direction.
+use Rattle.std.specs.Prelude.{◌≡◌, ◌≢◌, ◌⊎◌, ℕ, ◌≤◌}
+use Rattle.pan_base.specs.Events.{Spent, Fails, Behaviour}
 use Rattle.pan_control.specs.Seen.{Seen}
 use Rattle.pan_agree.specs.Agree.{Overflows}
-
--- with more steps the machine's events go on, and a run that has ended stays as it is
-pub record IsSteady (machine : ℕ → Behaviour) : Type 0 where
-  pub front : (k j : ℕ) → IsPrefix (machine k).events (machine (k + j)).events
-  pub same : (k j : ℕ) → ((machine k).ending ≡ Spent) ⊎ (machine (k + j) ≡ machine k)
-
--- the source meets neither a fault nor the end of a stack, which are the machine's
-pub record IsSourceLike (source : ℕ → Seen) : Type 0 where
-  pub no_fault : (n : ℕ) → ((source n).behaviour).ending ≢ Fault
-  pub no_stack : (n : ℕ) → ((source n).behaviour).ending ≢ Stack
 
 -- the machine does in k steps what the source did with n units of fuel, and took at least as many steps as units where the source was spent
 pub record DoesInTime (n k : ℕ) (s : Seen) (b : Behaviour) : Type 0 where
@@ -24,3 +14,9 @@ abbrev pub ForwardInTime : ℕ → (ℕ → Seen) → (ℕ → Behaviour) → Ty
 ForwardInTime stack source machine =
     (n : ℕ) → ((source n).behaviour).ending ≢ Fails
     → (k : ℕ) × (DoesInTime n k (source n) (machine k) ⊎ Overflows stack (source n) (machine k))
+
+-- The same within limits: in no more steps than the limit for so much fuel allows, also where the stack is exhausted.
+abbrev pub ForwardWithin : ℕ → (ℕ → ℕ) → (ℕ → Seen) → (ℕ → Behaviour) → Type 0
+ForwardWithin stack limit source machine =
+    (n : ℕ) → ((source n).behaviour).ending ≢ Fails
+    → (k : ℕ) × (k ≤ limit n) × (DoesInTime n k (source n) (machine k) ⊎ Overflows stack (source n) (machine k))

@@ -1,3 +1,4 @@
 pub mod Agree
 pub mod Faithful
 pub mod Laws
+pub mod Samples

@@ -2,5 +2,7 @@
 #![tactic(auto)]
 
 mod laws;
+mod refuted;
 
 pub use laws::both_ways;
+pub use refuted::refuses_wrong_machines;

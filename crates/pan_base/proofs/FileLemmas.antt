@@ -1,12 +1,12 @@
 -- Files in memory after one of them was stored.
-use Rattle.std.proofs.Common.{◌≡◌, ◌≢◌, ℕ, take, Result, Ok, Err, inl, inr, ◌<◌, ◌≤◌, List, [], ◌∷◌, ◌++◌, length, get_or, set, suc, zero, Some, None, refl, ap, arith, true, false}
-use Rattle.std.specs.Prelude.{position, OnOk, OnErr}
+use Rattle.std.proofs.Common.{◌≡◌, ◌≢◌, ℕ, take, Option, inl, inr, ◌<◌, ◌≤◌, List, [], ◌∷◌, ◌++◌, length, get_or, set, suc, zero, Some, None, refl, ap, ◌∙◌, arith, true, false}
+use Rattle.std.specs.Prelude.{position, min}
 use Rattle.std.specs.List.{position_or_len}
 use Rattle.std.specs.Str.{bytes_eq}
 use Rattle.std.proofs.lemmas.Slice.Eq.{bytes_eq-Decides}
 use Rattle.std.proofs.lemmas.List.Quantifiers.{position-Some}
 use Rattle.pan_base.specs.Files.{Stored, StoredBelow, StoredInPart}
-use Rattle.pan_base.specs.MemFiles.{file_at, with_file}
+use Rattle.pan_base.specs.MemFiles.{file_at, with_file, kept}
 
 same_name : (name : List ℕ) → bytes_eq name name ≡ true
 same_name name = (bytes_eq-Decides name name).1 refl
@@ -45,8 +45,19 @@ stored_whole files name bytes = (file_at-with_file files name bytes, file_at-wit
 pub stored_nothing : (limit : ℕ) (files : List (List ℕ × List ℕ)) (name bytes : List ℕ) → StoredBelow limit (Some (file_at files)) (Some (file_at files)) name bytes
 stored_nothing limit files name bytes = (inl refl, λ other h. refl)
 
--- a front of the bytes was stored, or there was no memory for it
-pub stored_front : {A E : Type 0} (r : Result A E) (files new : List (List ℕ × List ℕ)) (name bytes : List ℕ) (n : ℕ) → n ≤ length bytes → OnOk r (new ≡ with_file files name (take n bytes)) → OnErr r (new ≡ files) → StoredInPart (Some (file_at files)) (Some (file_at new)) name bytes
-stored_front (Ok x) files new name bytes n within ok err =
-    rw ok (inr (n, omega arith, file_at-with_file files name (take n bytes)), file_at-with_file-other files name (take n bytes))
-stored_front (Err x) files new name bytes n within ok err = rw err (stored_nothing _ files name bytes)
+-- what a failing write keeps is a front of the bytes
+pub stored_kept : (keep : Option ℕ) (files : List (List ℕ × List ℕ)) (name bytes : List ℕ) → StoredInPart (Some (file_at files)) (Some (file_at (kept keep files name bytes))) name bytes
+stored_kept None files name bytes = stored_nothing _ files name bytes
+stored_kept (Some n) files name bytes =
+    (inr (min n (length bytes), omega arith, file_at-with_file files name (take n bytes) ∙ ap Some (take_min n bytes)), file_at-with_file-other files name (take n bytes))
+  where
+    take_min : (n : ℕ) (xs : List ℕ) → take n xs ≡ take (min n (length xs)) xs
+    take_min zero xs =
+        let e : min zero (length xs) ≡ zero = omega arith in
+        rw e refl
+    take_min (suc n) [] =
+        let e : min (suc n) zero ≡ zero = omega arith in
+        rw e refl
+    take_min (suc n) (x ∷ xs) =
+        let e : min (suc n) (suc (length xs)) ≡ suc (min n (length xs)) = omega arith in
+        rw e (ap (λ rest. x ∷ rest) (take_min n xs))

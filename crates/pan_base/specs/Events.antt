@@ -1,6 +1,7 @@
 -- Requests, replies, traces and ends, without where their bytes lie in memory.
 use Rattle.std.specs.Prelude.{◌≡◌, ℕ, ◌*◌, ◌^◌, List, [], ◌∷◌, ◌++◌, length, Bool, true, false, ◌&&◌, nat_lt, nat_eq, IsTrue}
 use Rattle.std.specs.List.{list_all}
+use Rattle.std.specs.Int.{Width, w8, w16, w32, w64}
 use Rattle.pan_base.specs.declared.events.Size.{Size}
 use Rattle.pan_base.specs.declared.events.Size.TheVariants.{B1, B2, B4, B8}
 use Rattle.pan_base.specs.declared.events.Request.{Request}
@@ -40,6 +41,13 @@ byte_count B1 = 1
 byte_count B2 = 2
 byte_count B4 = 4
 byte_count B8 = 8
+
+-- how wide an access is
+abbrev pub width : Size → Width
+width B1 = w8
+width B2 = w16
+width B4 = w32
+width B8 = w64
 
 -- whether the reply is one to this request: a value of the size, done, or as many bytes as the array has
 abbrev pub fits : Asked → Replied → Bool

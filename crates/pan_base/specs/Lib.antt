@@ -1,6 +1,7 @@
 pub mod Causes
 pub mod Counts
 pub mod Events
+pub mod Bytes
 pub mod Files
 pub mod LineCount
 pub mod MemFiles
@@ -10,8 +11,10 @@ pub mod RealFiles
 pub mod RealOut
 pub mod Sinks
 pub mod Words
+pub mod Results
 pub mod Spelling
 pub mod Tokens
 pub mod Lexing
 pub mod Trace
 pub mod Pieces
+pub mod Lawful

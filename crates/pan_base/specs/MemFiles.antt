@@ -1,5 +1,5 @@
 -- Files in memory.
-use Rattle.std.specs.Prelude.{◌≡◌, ◌⊎◌, ◌==◌, ℕ, List, [], ◌∷◌, take, find, Option, Some, None, if◌then◌else◌}
+use Rattle.std.specs.Prelude.{◌==◌, ℕ, List, [], ◌∷◌, take, find, Option, Some, None, if◌then◌else◌}
 use Rattle.std.specs.Str.{bytes_eq}
 use Rattle.pan_base.specs.Counts.{next_count}
 use Rattle.pan_base.specs.Files.{Files, FilesState}
@@ -41,13 +41,12 @@ after_call s = record s { calls = next_count s.calls }
 abbrev pub after_failed_read : MemFilesState → MemFilesState
 after_failed_read s = record s { calls = next_count s.calls; failed_reads = next_count s.failed_reads }
 
--- what stands after a write that failed and stored nothing
-abbrev pub after_failed_write : MemFilesState → MemFilesState
-after_failed_write s = record s { calls = next_count s.calls; failed_writes = next_count s.failed_writes }
+-- the files after a write that fails: as they were, or with so many of the new bytes where it keeps some
+abbrev pub kept : Option ℕ → List (List ℕ × List ℕ) → List ℕ → List ℕ → List (List ℕ × List ℕ)
+kept None files name bytes = files
+kept (Some n) files name bytes = with_file files name (take n bytes)
 
--- what a failed write leaves: the old bytes, or if it keeps some and there was memory, so many of the new ones
-abbrev pub FailsWrite : Option ℕ → MemFilesState → MemFilesState → List ℕ → List ℕ → Type 0
-FailsWrite None old new name bytes = new ≡ after_failed_write old
-FailsWrite (Some n) old new name bytes =
-    (new ≡ after_failed_write old)
-    ⊎ (new ≡ record (after_failed_write old) { files = with_file old.files name (take n bytes) })
+-- what stands after a write that failed
+abbrev pub after_failed_write : Option ℕ → MemFilesState → List ℕ → List ℕ → MemFilesState
+after_failed_write keep s name bytes =
+    record s { files = kept keep s.files name bytes; calls = next_count s.calls; failed_writes = next_count s.failed_writes }

@@ -1,6 +1,6 @@
 //! Requests, replies and ends.
 
-ghost use Rattle.std.specs.Prelude.{◌≡◌, ◌↔◌, ◌*◌, ◌^◌, ◌<◌, IsTrue, []};
+ghost use Rattle.std.specs.Prelude.{◌≡◌, ◌↔◌, ◌*◌, ◌%◌, ◌^◌, ◌<◌, IsTrue, []};
 ghost use Rattle.pan_base.specs.Events.{asked, replied, Foreign, Bytes, fits, Fits, byte_count};
 
 /// How many bytes an access has: 1, 2, 4 or 8.
@@ -10,6 +10,33 @@ pub enum Size {
     B2,
     B4,
     B8,
+}
+
+impl Size {
+    /// How many bytes an access of the size has.
+    pub fn bytes(self) -> u64
+        ensures value { result ≡ byte_count self }
+        ensures some { 0 < result }
+    {
+        match self {
+            Size::B1 => 1,
+            Size::B2 => 2,
+            Size::B4 => 4,
+            Size::B8 => 8,
+        }
+    }
+
+    /// The value's low bytes, so many as the size has.
+    pub fn cut(self, value: u64) -> u64
+        ensures { result ≡ value % 2 ^ (8 * byte_count self) }
+    {
+        match self {
+            Size::B1 => value % (1 << 8),
+            Size::B2 => value % (1 << 16),
+            Size::B4 => value % (1 << 32),
+            Size::B8 => value,
+        }
+    }
 }
 
 /// What a program asks of a device.

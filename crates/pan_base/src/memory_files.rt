@@ -1,10 +1,10 @@
 //! Files in memory.
 
-ghost use Rattle.std.specs.Prelude.{◌≡◌, position, Err, None, IfOk, OnOk, OnErr, IfSome, OnSome, IfNone, IsSome, IsNone, ◌↔◌};
+ghost use Rattle.std.specs.Prelude.{◌≡◌, ◌⊎◌, position, Ok, Err, None, IfOk, OnOk, OnErr, IfSome, OnSome, IfNone, IsSome, IsNone, ◌↔◌};
 ghost use Rattle.std.specs.Option.{option_copied};
 ghost use Rattle.std.specs.Str.{bytes_eq};
 ghost use Rattle.pan_base.specs.Files.{Reads, NoneChanged, Writes, FaultCause};
-ghost use Rattle.pan_base.specs.MemFiles.{file_at, with_file};
+ghost use Rattle.pan_base.specs.MemFiles.{file_at, with_file, kept};
 
 use crate::blob::Blob;
 use crate::error::NoMemory;
@@ -16,7 +16,8 @@ use std::alloc::Global;
 use std::marker::Model;
 
 /// The number of a call that fails. A failing write keeps the first `keep` bytes of what it was to store, or all where
-/// there are fewer; with `None`, or where there is no memory for them, it leaves the file as it was.
+/// there are fewer. With `None` it leaves the file as it was, and so it does where there is no memory for those bytes,
+/// which is its answer then.
 #[derive(Clone, Copy, Debug, PartialEq, Eq)]
 pub struct Failing {
     pub call: u64,
@@ -131,8 +132,26 @@ fn put_file(
     Ok(())
 }
 
+/// Puts under the name what a failing write keeps.
+fn keep_front(
+    alloc: Global,
+    files: &mut List<(Text, Blob)>,
+    keep: Option<u64>,
+    name: &str,
+    bytes: &[u8],
+) -> Result<(), NoMemory>
+    ensures ok { OnOk result (files.new ≡ kept keep files.old name.now bytes.now) }
+    ensures err { OnErr result (files.new ≡ files.old) }
+    ensures nothing { keep ≡ None → result ≡ Ok tt }
+{
+    match keep {
+        Some(keep) => put_file(alloc, files, name, &bytes[..bytes.len().min(keep as usize)]),
+        None => Ok(()),
+    }
+}
+
 impl Workspace for MemFiles {
-    ghost use Rattle.pan_base.specs.MemFiles.{mem_files_told, failure, after_call, after_failed_read, FailsWrite};
+    ghost use Rattle.pan_base.specs.MemFiles.{mem_files_told, failure, after_call, after_failed_read, after_failed_write};
 
     ghost state = { mem_files_told };
 
@@ -168,21 +187,24 @@ impl Workspace for MemFiles {
         ensures reads { self.new.failed_reads ≡ self.old.failed_reads }
         ensures writes { FaultCause self.old.failed_writes self.new.failed_writes result }
 
-        // It fails at the calls of `failing`, and else where there is no memory.
-        ensures fault { (result ≡ Err FileError.Fault) ↔ IsSome (failure self.old) }
+        // It fails at the calls of `failing`, and where there is no memory for what is to be stored or kept.
+        ensures fault { result ≡ Err FileError.Fault → IsSome (failure self.old) }
+        ensures failing { IsSome (failure self.old) → (result ≡ Err FileError.Fault) ⊎ (result ≡ Err FileError.NoMemory) }
         ensures ok { OnOk result (self.new ≡
             record (after_call self.old) { files = with_file self.old.files name.now bytes.now }) }
-        ensures failed { IfSome (failure self.old) (λ f. FailsWrite f.keep self.old self.new name.now bytes.now) }
+        ensures failed { result ≡ Err FileError.Fault → IfSome (failure self.old) (λ f.
+            self.new ≡ after_failed_write f.keep self.old name.now bytes.now) }
         ensures no_memory { result ≡ Err FileError.NoMemory → self.new ≡ after_call self.old }
+        ensures nothing_kept { IfSome (failure self.old) (λ f. f.keep ≡ None → result ≡ Err FileError.Fault) }
     {
         if let Some(failing) = self.next_failure() {
-            self.failed_writes = self.failed_writes.saturating_add(1);
-            if let Some(keep) = failing.keep {
-                let keep = bytes.len().min(keep as usize);
-                // Where there is no memory for them, the file stays as it was.
-                let _ = put_file(alloc, &mut self.files, name, &bytes[..keep]);
-            }
-            return Err(FileError::Fault);
+            return match keep_front(alloc, &mut self.files, failing.keep, name, bytes) {
+                Ok(()) => {
+                    self.failed_writes = self.failed_writes.saturating_add(1);
+                    Err(FileError::Fault)
+                }
+                Err(NoMemory) => Err(FileError::NoMemory),
+            };
         }
         match put_file(alloc, &mut self.files, name, bytes) {
             Ok(()) => Ok(()),

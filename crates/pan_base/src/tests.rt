@@ -100,6 +100,16 @@ fn lines(rt: HostRuntime) -> Result<(), Fail> {
     Ok(())
 }
 
+/// A call that has nothing but an array.
+fn called(array: &[u8]) -> Request<'_> {
+    Request::Foreign {
+        number: 0,
+        name: b"f",
+        conf: b"",
+        array,
+    }
+}
+
 /// The line of an event, put into memory.
 fn event_text(alloc: Global, request: Request<'_>, reply: Reply<'_>) -> Result<MemSink, Fail> {
     let mut sink = MemSink::new(alloc, 100, List::new(alloc))?;
@@ -153,6 +163,31 @@ fn lines_of_events(rt: HostRuntime) -> Result<(), Fail> {
     ] {
         let sink = event_text(rt.alloc(), request, reply)?;
         assert_eq!(rt; sink.bytes(), want.as_bytes(), "{want}");
+    }
+    Ok(())
+}
+
+#[test]
+fn puts_of_lines(rt: HostRuntime) -> Result<(), Fail> {
+    let load = Request::Load {
+        size: Size::B8,
+        addr: 0x4000_0000,
+    };
+    let (short, long) = ([7; 10], [7; 3000]);
+    for (row, (request, reply, failing, want)) in [
+        (load, Reply::Value(0), 0, Err(SinkFault)),
+        (load, Reply::Value(0), 1, Ok(())),
+        (called(&short), Reply::Bytes(&short), 1, Ok(())),
+        (called(&long), Reply::Bytes(&long), 2, Err(SinkFault)),
+        (called(&long), Reply::Bytes(&long), 3, Ok(())),
+    ]
+    .into_iter()
+    .enumerate()
+    {
+        let failing = List::from_slice(rt.alloc(), &[failing])?;
+        let mut sink = MemSink::new(rt.alloc(), 20_000, failing)?;
+        assert!(rt; fits(&request, &reply));
+        assert_eq!(rt; write_event(&mut sink, &request, &reply), want, "row {row}");
     }
     Ok(())
 }

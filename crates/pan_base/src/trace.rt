@@ -1,16 +1,17 @@
 //! The text of events and ends.
 
-ghost use Rattle.std.specs.Prelude.{◌≡◌, ◌≤◌, ◌∷◌, []};
+ghost use Rattle.std.specs.Prelude.{◌≡◌, ◌+◌, ◌≤◌, ◌∷◌, [], ◌++◌, length, OnOk};
 ghost use Rattle.std.specs.List.{flat_map};
 ghost use Rattle.pan_base.specs.Causes.{HasCause};
 ghost use Rattle.pan_base.specs.Events.{asked, replied, Fits};
-ghost use Rattle.pan_base.specs.Pieces.{piece_text};
+ghost use Rattle.pan_base.specs.Pieces.{piece_text, Passes};
 ghost use Rattle.pan_base.specs.Sinks.{PutsAll};
 ghost use Rattle.pan_base.specs.Tokens.{bits_text};
 ghost use Rattle.pan_base.specs.Trace.{hex_text, buffer_text, word_text, call_line, event_line, end_line};
 
 use crate::events::{End, Reply, Request, Size};
 use crate::sinks::{Sink, SinkFault, put_all};
+use std::marker::Model;
 
 /// A byte as two hexadecimal digits in lower case.
 fn byte_digits(byte: u8) -> [u8; 2]
@@ -47,26 +48,115 @@ fn bits_of(size: Size) -> &'static [u8]
     }
 }
 
-/// Puts bytes as two hexadecimal digits each.
-fn put_hex<O: Sink>(out: &mut O, bytes: &[u8]) -> Result<(), SinkFault>
-    ensures took { PutsAll (O.state out.old) (O.state out.new) result (hex_text bytes.now) }
-    ensures cause { HasCause (O.state out.old).faults (O.state out.new).faults result }
-{
-    for byte in bytes {
-        put_all(out, &byte_digits(*byte))?;
-    }
-    Ok(())
+/// The room for a line without buffers, which fits in it.
+const SHORT: usize = 64;
+
+/// The room for a line with buffers: how many bytes of it are put at once.
+const LONG: usize = 4096;
+
+/// The end of a line that isn't put yet.
+#[derive(Drop)]
+struct Line<const ROOM: usize> {
+    bytes: [u8; ROOM],
+    count: usize,
 }
 
-/// Puts a buffer in hexadecimal, and `-` where it is empty.
-fn put_buffer<O: Sink>(out: &mut O, bytes: &[u8]) -> Result<(), SinkFault>
-    ensures took { PutsAll (O.state out.old) (O.state out.new) result (buffer_text bytes.now) }
-    ensures cause { HasCause (O.state out.old).faults (O.state out.new).faults result }
-{
-    if bytes.is_empty() {
-        put_all(out, b"-")
-    } else {
-        put_hex(out, bytes)
+impl<const ROOM: usize> Model for Line<ROOM> {
+    ghost use Rattle.std.specs.Prelude.{ℕ, ◌≤◌, List, take};
+
+    ghost Value = { List ℕ };
+
+    ghost view = { λ line. take line.count line.bytes };
+
+    ghost invariant = { λ line. (line.count ≤ ROOM) × (ROOM ≤ 4096) };
+}
+
+impl<const ROOM: usize> Line<ROOM> {
+    /// No byte.
+    fn new() -> Self
+        requires { ROOM ≤ 4096 }
+        ensures { result ≡ [] }
+    {
+        Line {
+            bytes: [0; ROOM],
+            count: 0,
+        }
+    }
+
+    /// Puts what is held back.
+    fn put<O: Sink>(&mut self, out: &mut O) -> Result<(), SinkFault>
+        ensures took { PutsAll (O.state out.old) (O.state out.new) result self.old }
+        ensures emptied { OnOk result (self.new ≡ []) }
+        ensures cause { HasCause (O.state out.old).faults (O.state out.new).faults result }
+    {
+        put_all(out, &self.bytes[..self.count])?;
+        self.count = 0;
+        Ok(())
+    }
+
+    /// Goes on by some text, which is put where it is longer than the room for it.
+    fn add<O: Sink>(&mut self, out: &mut O, text: &[u8]) -> Result<(), SinkFault>
+        ensures took { Passes (O.state out.old) (O.state out.new) result self.old self.new text.now }
+        ensures cause { HasCause (O.state out.old).faults (O.state out.new).faults result }
+    {
+        if text.len() <= ROOM - self.count {
+            self.hold(text);
+            return Ok(());
+        }
+        self.put(out)?;
+        if text.len() <= ROOM {
+            self.hold(text);
+            Ok(())
+        } else {
+            put_all(out, text)
+        }
+    }
+
+    /// Holds some text back.
+    fn hold(&mut self, text: &[u8])
+        requires { length self.old + length text.now ≤ ROOM }
+        ensures { self.new ≡ self.old ++ text.now }
+    {
+        let from = self.count;
+        let room = &mut self.bytes[..];
+        room[from..from + text.len()].copy_from_slice(text);
+        self.count = from + text.len();
+    }
+
+    /// Goes on by bytes as two hexadecimal digits each.
+    fn add_hex<O: Sink>(&mut self, out: &mut O, bytes: &[u8]) -> Result<(), SinkFault>
+        ensures took { Passes (O.state out.old) (O.state out.new) result self.old self.new (hex_text bytes.now) }
+        ensures cause { HasCause (O.state out.old).faults (O.state out.new).faults result }
+    {
+        for byte in bytes {
+            self.add(out, &byte_digits(*byte))?;
+        }
+        Ok(())
+    }
+
+    /// Goes on by a buffer in hexadecimal, and by `-` where it is empty.
+    fn add_buffer<O: Sink>(&mut self, out: &mut O, bytes: &[u8]) -> Result<(), SinkFault>
+        ensures took { Passes (O.state out.old) (O.state out.new) result self.old self.new (buffer_text bytes.now) }
+        ensures cause { HasCause (O.state out.old).faults (O.state out.new).faults result }
+    {
+        if bytes.is_empty() {
+            self.add(out, b"-")
+        } else {
+            self.add_hex(out, bytes)
+        }
+    }
+
+    /// Goes on by a part of the line.
+    fn add_piece<O: Sink>(&mut self, out: &mut O, piece: Piece<'_>) -> Result<(), SinkFault>
+        ensures took { Passes (O.state out.old) (O.state out.new) result self.old self.new (piece_text piece.entry) }
+        ensures cause { HasCause (O.state out.old).faults (O.state out.new).faults result }
+    {
+        match piece {
+            Piece::Text(text) => self.add(out, text),
+            Piece::Bits(size) => self.add(out, bits_of(size)),
+            Piece::Word(word) => self.add(out, &word_digits(word)),
+            Piece::Buffer(bytes) => self.add_buffer(out, bytes),
+        }
     }
 }
 
@@ -83,28 +173,20 @@ enum Piece<'a> {
     Buffer(&'a [u8]),
 }
 
-/// Puts a part of a line.
-fn put_piece<O: Sink>(out: &mut O, piece: Piece<'_>) -> Result<(), SinkFault>
-    ensures took { PutsAll (O.state out.old) (O.state out.new) result (piece_text piece.entry) }
-    ensures cause { HasCause (O.state out.old).faults (O.state out.new).faults result }
-{
-    match piece {
-        Piece::Text(text) => put_all(out, text),
-        Piece::Bits(size) => put_all(out, bits_of(size)),
-        Piece::Word(word) => put_all(out, &word_digits(word)),
-        Piece::Buffer(bytes) => put_buffer(out, bytes),
-    }
-}
-
-/// Puts the parts one after another.
-fn put_pieces<O: Sink>(out: &mut O, pieces: &[Piece<'_>]) -> Result<(), SinkFault>
+/// Puts the parts one after another, at once where they are no longer than the room.
+fn put_pieces<const ROOM: usize, O: Sink>(
+    out: &mut O,
+    pieces: &[Piece<'_>],
+) -> Result<(), SinkFault>
+    requires { ROOM ≤ 4096 }
     ensures took { PutsAll (O.state out.old) (O.state out.new) result (flat_map piece_text pieces.now) }
     ensures cause { HasCause (O.state out.old).faults (O.state out.new).faults result }
 {
+    let mut line = Line::<ROOM>::new();
     for piece in pieces {
-        put_piece(out, *piece)?;
+        line.add_piece(out, *piece)?;
     }
-    Ok(())
+    line.put(out)
 }
 
 /// Puts the line of a foreign call.
@@ -118,7 +200,7 @@ fn put_call<'x, O: Sink>(
     ensures took { PutsAll (O.state out.old) (O.state out.new) result (call_line name.now conf.now array.now reply.now) }
     ensures cause { HasCause (O.state out.old).faults (O.state out.new).faults result }
 {
-    put_pieces(
+    put_pieces::<LONG, O>(
         out,
         &[
             Piece::Text(b"call "),
@@ -148,7 +230,7 @@ pub fn write_event<O: Sink>(
     ensures cause { HasCause (O.state out.old).faults (O.state out.new).faults result }
 {
     match (*request, *reply) {
-        (Request::Load { size, addr }, Reply::Value(value)) => put_pieces(
+        (Request::Load { size, addr }, Reply::Value(value)) => put_pieces::<SHORT, O>(
             out,
             &[
                 Piece::Text(b"ld"),
@@ -160,7 +242,7 @@ pub fn write_event<O: Sink>(
                 Piece::Text(b"\n"),
             ],
         ),
-        (Request::Store { size, addr, value }, Reply::Done) => put_pieces(
+        (Request::Store { size, addr, value }, Reply::Done) => put_pieces::<SHORT, O>(
             out,
             &[
                 Piece::Text(b"st"),
@@ -192,7 +274,7 @@ pub fn write_end<O: Sink>(out: &mut O, end: End) -> Result<(), SinkFault>
     ensures cause { HasCause (O.state out.old).faults (O.state out.new).faults result }
 {
     match end {
-        End::Exit(value) => put_pieces(
+        End::Exit(value) => put_pieces::<SHORT, O>(
             out,
             &[
                 Piece::Text(b"exit "),
@@ -200,7 +282,7 @@ pub fn write_end<O: Sink>(out: &mut O, end: End) -> Result<(), SinkFault>
                 Piece::Text(b"\n"),
             ],
         ),
-        End::Uncaught(number) => put_pieces(
+        End::Uncaught(number) => put_pieces::<SHORT, O>(
             out,
             &[
                 Piece::Text(b"uncaught "),

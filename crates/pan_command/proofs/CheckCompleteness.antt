@@ -2,7 +2,6 @@
 use Rattle.std.proofs.Common.{◌≡◌, ℕ, List, Some, None, refl, sym, subst, inl, inr}
 use Rattle.std.specs.Prelude.{◌⊎◌}
 use Rattle.pan_base.specs.Files.{Files}
-use Rattle.pan_base.specs.Sinks.{Took}
 use Rattle.pan_tree.specs.Check.{program_weight}
 use Rattle.pan_tree.specs.declared.program.Program.{Program}
 use Rattle.front_end.specs.Sources.{IsChecked, Unchecked}
@@ -12,21 +11,21 @@ use Rattle.pan_command.specs.declared.status.Status.TheVariants as status
 use Rattle.pan_command.specs.declared.error.BuildError.TheVariants.{Source}
 use Rattle.pan_command.specs.Served.{source_line}
 use Rattle.pan_command.specs.Status.{code}
-use Rattle.pan_command.specs.Outside.{Outside, NoFault}
+use Rattle.pan_command.specs.Outside.{Call, IsPut, IsUndisturbed}
 use Rattle.pan_command.specs.Check.{CheckCases, weight_line}
 use Rattle.pan_command.proofs.Told.{same_bytes, not_held, not_unread}
 
-module _ (before after : Outside) (all : Files) (source : List ℕ) (told : (before.files).files ≡ Some all) (fine : NoFault before after) where
+module _ (call : Call) (all : Files) (source : List ℕ) (fine : IsUndisturbed call all) where
   -- a file that is there
   module _ (bytes : List ℕ) (there : all source ≡ Some bytes) where
-    pub passed_ends : (program : Program) → IsChecked bytes program → (s : Status) → CheckCases source before after s → ((code s ≡ 0) × Took before.out after.out (weight_line (program_weight program))) ⊎ (code s ≡ 8)
+    pub passed_ends : (program : Program) → IsChecked bytes program → (s : Status) → CheckCases source call s → ((code s ≡ 0) × IsPut call (weight_line (program_weight program))) ⊎ (code s ≡ 8)
     passed_ends program checked status.Done h =
-        let e : (h.read).bytes ≡ bytes = same_bytes _ all source bytes (h.read).bytes told there (h.read).held in
+        let e : (h.read).bytes ≡ bytes = same_bytes _ all source bytes (h.read).bytes fine.told there (h.read).held in
         let same : program ≡ (h.read).program = ((h.read).source).only program (subst (λ b. IsChecked b program) (sym e) checked) in
-        inl (refl, subst (λ p. Took before.out after.out (weight_line (program_weight p))) (sym same) h.line)
+        inl (refl, subst (λ p. IsPut call (weight_line (program_weight p))) (sym same) h.line)
     passed_ends program checked status.Usage h = absurd h
-    passed_ends program checked status.Unread h = absurd (not_unread _ before after all source bytes told there fine h)
-    passed_ends program checked status.Refused h = absurd (h.unchecked program (subst (λ b. IsChecked b program) (sym (same_bytes _ all source bytes h.bytes told there h.held)) checked))
+    passed_ends program checked status.Unread h = absurd (not_unread _ call all source bytes fine there h)
+    passed_ends program checked status.Refused h = absurd (h.unchecked program (subst (λ b. IsChecked b program) (sym (same_bytes _ all source bytes h.bytes fine.told there h.held)) checked))
     passed_ends program checked status.NoImage h = absurd h
     passed_ends program checked status.NoScript h = absurd h
     passed_ends program checked status.Unwritten h = absurd h
@@ -34,14 +33,14 @@ module _ (before after : Outside) (all : Files) (source : List ℕ) (told : (bef
     passed_ends program checked status.NoMemory h = inr refl
     passed_ends program checked (status.Ran end) h = absurd h
 
-    pub unpassed_ends : (e : SourceError) → Unchecked bytes e → (s : Status) → CheckCases source before after s → ((code s ≡ 4) × Took before.out after.out (source_line (Source e))) ⊎ (code s ≡ 8)
+    pub unpassed_ends : (e : SourceError) → Unchecked bytes e → (s : Status) → CheckCases source call s → ((code s ≡ 4) × IsPut call (source_line (Source e))) ⊎ (code s ≡ 8)
     unpassed_ends e unchecked status.Done h =
-        absurd (((h.read).source).accepted e (subst (λ b. Unchecked b e) (sym (same_bytes _ all source bytes (h.read).bytes told there (h.read).held)) unchecked))
+        absurd (((h.read).source).accepted e (subst (λ b. Unchecked b e) (sym (same_bytes _ all source bytes (h.read).bytes fine.told there (h.read).held)) unchecked))
     unpassed_ends e unchecked status.Usage h = absurd h
-    unpassed_ends e unchecked status.Unread h = absurd (not_unread _ before after all source bytes told there fine h)
+    unpassed_ends e unchecked status.Unread h = absurd (not_unread _ call all source bytes fine there h)
     unpassed_ends e unchecked status.Refused h =
-        let same = h.only e (subst (λ b. Unchecked b e) (sym (same_bytes _ all source bytes h.bytes told there h.held)) unchecked) in
-        inl (refl, subst (λ r. Took before.out after.out (source_line (Source r))) (sym same) h.line)
+        let same = h.only e (subst (λ b. Unchecked b e) (sym (same_bytes _ all source bytes h.bytes fine.told there h.held)) unchecked) in
+        inl (refl, subst (λ r. IsPut call (source_line (Source r))) (sym same) h.line)
     unpassed_ends e unchecked status.NoImage h = absurd h
     unpassed_ends e unchecked status.NoScript h = absurd h
     unpassed_ends e unchecked status.Unwritten h = absurd h
@@ -49,11 +48,11 @@ module _ (before after : Outside) (all : Files) (source : List ℕ) (told : (bef
     unpassed_ends e unchecked status.NoMemory h = inr refl
     unpassed_ends e unchecked (status.Ran end) h = absurd h
 
-  pub missing_ends : all source ≡ None → (s : Status) → CheckCases source before after s → (code s ≡ 3) ⊎ (code s ≡ 8)
-  missing_ends gone status.Done h = absurd (not_held _ all source (h.read).bytes told gone (h.read).held)
+  pub missing_ends : all source ≡ None → (s : Status) → CheckCases source call s → (code s ≡ 3) ⊎ (code s ≡ 8)
+  missing_ends gone status.Done h = absurd (not_held _ all source (h.read).bytes fine.told gone (h.read).held)
   missing_ends gone status.Usage h = absurd h
   missing_ends gone status.Unread h = inl refl
-  missing_ends gone status.Refused h = absurd (not_held _ all source h.bytes told gone h.held)
+  missing_ends gone status.Refused h = absurd (not_held _ all source h.bytes fine.told gone h.held)
   missing_ends gone status.NoImage h = absurd h
   missing_ends gone status.NoScript h = absurd h
   missing_ends gone status.Unwritten h = absurd h

@@ -1,117 +1,116 @@
 -- How `compile` ends: by its status, and where no fault of the outside came.
-use Rattle.std.proofs.Common.{◌≡◌, ℕ, List, Option, Some, None, refl, sym, subst, inl, inr}
+use Rattle.std.proofs.Common.{◌≡◌, ℕ, List, Some, None, refl, sym, subst, inl, inr}
 use Rattle.std.specs.Prelude.{◌⊎◌}
 use Rattle.pan_base.specs.Files.{Files}
-use Rattle.pan_base.specs.Sinks.{Took}
-use Rattle.pan_base.specs.declared.events.End.{End}
 use Rattle.pan_tree.specs.declared.program.Program.{Program}
 use Rattle.pan_command.specs.declared.status.Status.{Status}
 use Rattle.pan_command.specs.declared.status.Status.TheVariants as status
-use Rattle.pan_command.specs.Served.{IsServed, Refuses, source_line}
+use Rattle.pan_command.specs.Served.{IsServed, IsRefusedFor, source_line}
 use Rattle.pan_command.specs.declared.error.BuildError.{BuildError}
 use Rattle.pan_command.specs.Status.{code, IsCompileCode}
-use Rattle.pan_command.specs.Outside.{Outside, NoFault}
-use Rattle.pan_command.specs.Compile.{CompileEnds, Compiled, Unread, Refused, Starved}
-use Rattle.pan_command.proofs.Told.{same_bytes, not_lacks, not_held}
+use Rattle.pan_command.specs.Outside.{Call, NoFileChanged, IsPut, IsUndisturbed}
+use Rattle.pan_command.specs.Reading.{FileUnread}
+use Rattle.pan_command.specs.Compile.{CompileEnds, Compiled, CompileRefused, CompileStarved}
+use Rattle.pan_command.proofs.Told.{same_bytes, not_held, not_unread}
 
 -- `compile` gives no other status
-pub compile_code : (before after : Outside) (source image : List ℕ) (s : Status) → CompileEnds source image before after s → IsCompileCode (code s)
-compile_code before after source image status.Done h = inl refl
-compile_code before after source image status.Usage h = absurd h
-compile_code before after source image status.NoImage h = absurd h
-compile_code before after source image status.NoScript h = absurd h
-compile_code before after source image (status.Ran end) h = absurd h
-compile_code before after source image status.Unread h = inr (inl refl)
-compile_code before after source image status.Refused h = inr (inr (inl refl))
-compile_code before after source image status.Unwritten h = inr (inr (inr (inl refl)))
-compile_code before after source image status.Unput h = inr (inr (inr (inl refl)))
-compile_code before after source image status.NoMemory h = inr (inr (inr (inr refl)))
+pub compile_code : (call : Call) (source image : List ℕ) (s : Status) → CompileEnds source image call s → IsCompileCode (code s)
+compile_code call source image status.Done h = inl refl
+compile_code call source image status.Usage h = absurd h
+compile_code call source image status.NoImage h = absurd h
+compile_code call source image status.NoScript h = absurd h
+compile_code call source image (status.Ran end) h = absurd h
+compile_code call source image status.Unread h = inr (inl refl)
+compile_code call source image status.Refused h = inr (inr (inl refl))
+compile_code call source image status.Unwritten h = inr (inr (inr (inl refl)))
+compile_code call source image status.Unput h = inr (inr (inr (inl refl)))
+compile_code call source image status.NoMemory h = inr (inr (inr (inr refl)))
 
 -- status 0 is that of an image that was written, 3 that of a source that wasn't read, 4 that of one that was refused, and 8 that of want of memory
-pub compiled_at : (before after : Outside) (source image : List ℕ) (s : Status) → CompileEnds source image before after s → code s ≡ 0 → Compiled (Took before.out after.out) before after source image
-compiled_at before after source image status.Done h e = h
-compiled_at before after source image status.Usage h e = absurd h
-compiled_at before after source image status.NoImage h e = absurd h
-compiled_at before after source image status.NoScript h e = absurd h
-compiled_at before after source image (status.Ran end) h e = absurd h
-compiled_at before after source image status.Unread h e = absurd (cc)
-compiled_at before after source image status.Refused h e = absurd (cc)
-compiled_at before after source image status.Unwritten h e = absurd (cc)
-compiled_at before after source image status.Unput h e = absurd (cc)
-compiled_at before after source image status.NoMemory h e = absurd (cc)
+pub compiled_at : (call : Call) (source image : List ℕ) (s : Status) → CompileEnds source image call s → code s ≡ 0 → Compiled (IsPut call) call source image
+compiled_at call source image status.Done h e = h
+compiled_at call source image status.Usage h e = absurd h
+compiled_at call source image status.NoImage h e = absurd h
+compiled_at call source image status.NoScript h e = absurd h
+compiled_at call source image (status.Ran end) h e = absurd h
+compiled_at call source image status.Unread h e = absurd (cc)
+compiled_at call source image status.Refused h e = absurd (cc)
+compiled_at call source image status.Unwritten h e = absurd (cc)
+compiled_at call source image status.Unput h e = absurd (cc)
+compiled_at call source image status.NoMemory h e = absurd (cc)
 
-pub starved_at : (before after : Outside) (source image : List ℕ) (s : Status) → CompileEnds source image before after s → code s ≡ 8 → Starved before after source image
-starved_at before after source image status.Done h e = absurd (cc)
-starved_at before after source image status.Usage h e = absurd h
-starved_at before after source image status.NoImage h e = absurd h
-starved_at before after source image status.NoScript h e = absurd h
-starved_at before after source image (status.Ran end) h e = absurd h
-starved_at before after source image status.Unread h e = absurd (cc)
-starved_at before after source image status.Refused h e = absurd (cc)
-starved_at before after source image status.Unwritten h e = absurd (cc)
-starved_at before after source image status.Unput h e = absurd (cc)
-starved_at before after source image status.NoMemory h e = h
+pub starved_at : (call : Call) (source image : List ℕ) (s : Status) → CompileEnds source image call s → code s ≡ 8 → CompileStarved call source image
+starved_at call source image status.Done h e = absurd (cc)
+starved_at call source image status.Usage h e = absurd h
+starved_at call source image status.NoImage h e = absurd h
+starved_at call source image status.NoScript h e = absurd h
+starved_at call source image (status.Ran end) h e = absurd h
+starved_at call source image status.Unread h e = absurd (cc)
+starved_at call source image status.Refused h e = absurd (cc)
+starved_at call source image status.Unwritten h e = absurd (cc)
+starved_at call source image status.Unput h e = absurd (cc)
+starved_at call source image status.NoMemory h e = h
 
-pub unread_at : (before after : Outside) (source image : List ℕ) (s : Status) → CompileEnds source image before after s → code s ≡ 3 → Unread (Took before.out after.out) before after source
-unread_at before after source image status.Done h e = absurd (cc)
-unread_at before after source image status.Usage h e = absurd h
-unread_at before after source image status.NoImage h e = absurd h
-unread_at before after source image status.NoScript h e = absurd h
-unread_at before after source image (status.Ran end) h e = absurd h
-unread_at before after source image status.Unread h e = h
-unread_at before after source image status.Refused h e = absurd (cc)
-unread_at before after source image status.Unwritten h e = absurd (cc)
-unread_at before after source image status.Unput h e = absurd (cc)
-unread_at before after source image status.NoMemory h e = absurd (cc)
+pub unread_at : (call : Call) (source image : List ℕ) (s : Status) → CompileEnds source image call s → code s ≡ 3 → NoFileChanged call × FileUnread (IsPut call) call source
+unread_at call source image status.Done h e = absurd (cc)
+unread_at call source image status.Usage h e = absurd h
+unread_at call source image status.NoImage h e = absurd h
+unread_at call source image status.NoScript h e = absurd h
+unread_at call source image (status.Ran end) h e = absurd h
+unread_at call source image status.Unread h e = h
+unread_at call source image status.Refused h e = absurd (cc)
+unread_at call source image status.Unwritten h e = absurd (cc)
+unread_at call source image status.Unput h e = absurd (cc)
+unread_at call source image status.NoMemory h e = absurd (cc)
 
-pub refused_at : (before after : Outside) (source image : List ℕ) (s : Status) → CompileEnds source image before after s → code s ≡ 4 → Refused (Took before.out after.out) before after source
-refused_at before after source image status.Done h e = absurd (cc)
-refused_at before after source image status.Usage h e = absurd h
-refused_at before after source image status.NoImage h e = absurd h
-refused_at before after source image status.NoScript h e = absurd h
-refused_at before after source image (status.Ran end) h e = absurd h
-refused_at before after source image status.Unread h e = absurd (cc)
-refused_at before after source image status.Refused h e = h
-refused_at before after source image status.Unwritten h e = absurd (cc)
-refused_at before after source image status.Unput h e = absurd (cc)
-refused_at before after source image status.NoMemory h e = absurd (cc)
+pub refused_at : (call : Call) (source image : List ℕ) (s : Status) → CompileEnds source image call s → code s ≡ 4 → CompileRefused (IsPut call) call source
+refused_at call source image status.Done h e = absurd (cc)
+refused_at call source image status.Usage h e = absurd h
+refused_at call source image status.NoImage h e = absurd h
+refused_at call source image status.NoScript h e = absurd h
+refused_at call source image (status.Ran end) h e = absurd h
+refused_at call source image status.Unread h e = absurd (cc)
+refused_at call source image status.Refused h e = h
+refused_at call source image status.Unwritten h e = absurd (cc)
+refused_at call source image status.Unput h e = absurd (cc)
+refused_at call source image status.NoMemory h e = absurd (cc)
 
-module _ (before after : Outside) (all : Files) (source image : List ℕ) (told : (before.files).files ≡ Some all) (fine : NoFault before after) where
-  pub served_ends : (bytes : List ℕ) (program : Program) → all source ≡ Some bytes → IsServed bytes program → (s : Status) → CompileEnds source image before after s → (code s ≡ 0) ⊎ (code s ≡ 8)
+module _ (call : Call) (all : Files) (source image : List ℕ) (fine : IsUndisturbed call all) where
+  pub served_ends : (bytes : List ℕ) (program : Program) → all source ≡ Some bytes → IsServed bytes program → (s : Status) → CompileEnds source image call s → (code s ≡ 0) ⊎ (code s ≡ 8)
   served_ends bytes program there served status.Done h = inl refl
   served_ends bytes program there served status.Usage h = absurd h
   served_ends bytes program there served status.NoImage h = absurd h
   served_ends bytes program there served status.NoScript h = absurd h
   served_ends bytes program there served (status.Ran end) h = absurd h
-  served_ends bytes program there served status.Unread h = absurd (elim h.cause [ inl r ↦ fine.reads r | inr l ↦ not_lacks _ all source bytes told there l ])
-  served_ends bytes program there served status.Refused h = absurd (h.unserved program (subst (λ b. IsServed b program) (sym (same_bytes _ all source bytes h.bytes told there h.held)) served))
+  served_ends bytes program there served status.Unread h = absurd (not_unread _ call all source bytes fine there h.1)
+  served_ends bytes program there served status.Refused h = absurd (h.unserved program (subst (λ b. IsServed b program) (sym (same_bytes _ all source bytes h.bytes fine.told there h.held)) served))
   served_ends bytes program there served status.Unwritten h = absurd (fine.writes h.cause)
   served_ends bytes program there served status.Unput h = absurd (fine.puts h.cause)
   served_ends bytes program there served status.NoMemory h = inr refl
 
-  pub refused_ends : (bytes : List ℕ) (e : BuildError) → all source ≡ Some bytes → Refuses bytes e → (s : Status) → CompileEnds source image before after s
-      → ((code s ≡ 4) × Took before.out after.out (source_line e)) ⊎ (code s ≡ 8)
-  refused_ends bytes e there refused status.Done h = absurd ((h.built).accepted e (subst (λ b. Refuses b e) (sym (same_bytes _ all source bytes (h.built).bytes told there (h.built).held)) refused))
+  pub refused_ends : (bytes : List ℕ) (e : BuildError) → all source ≡ Some bytes → IsRefusedFor bytes e → (s : Status) → CompileEnds source image call s
+      → ((code s ≡ 4) × IsPut call (source_line e)) ⊎ (code s ≡ 8)
+  refused_ends bytes e there refused status.Done h = absurd ((h.built).accepted e (subst (λ b. IsRefusedFor b e) (sym (same_bytes _ all source bytes (h.built).bytes fine.told there (h.built).held)) refused))
   refused_ends bytes e there refused status.Usage h = absurd h
   refused_ends bytes e there refused status.NoImage h = absurd h
   refused_ends bytes e there refused status.NoScript h = absurd h
   refused_ends bytes e there refused (status.Ran end) h = absurd h
-  refused_ends bytes e there refused status.Unread h = absurd (elim h.cause [ inl r ↦ fine.reads r | inr l ↦ not_lacks _ all source bytes told there l ])
+  refused_ends bytes e there refused status.Unread h = absurd (not_unread _ call all source bytes fine there h.1)
   refused_ends bytes e there refused status.Refused h =
-      let same = h.only e (subst (λ b. Refuses b e) (sym (same_bytes _ all source bytes h.bytes told there h.held)) refused) in
-      inl (refl, subst (λ r. Took before.out after.out (source_line r)) (sym same) h.line)
+      let same = h.only e (subst (λ b. IsRefusedFor b e) (sym (same_bytes _ all source bytes h.bytes fine.told there h.held)) refused) in
+      inl (refl, subst (λ r. IsPut call (source_line r)) (sym same) h.line)
   refused_ends bytes e there refused status.Unwritten h = absurd (fine.writes h.cause)
   refused_ends bytes e there refused status.Unput h = absurd (fine.puts h.cause)
   refused_ends bytes e there refused status.NoMemory h = inr refl
 
-  pub missing_ends : all source ≡ None → (s : Status) → CompileEnds source image before after s → (code s ≡ 3) ⊎ (code s ≡ 8)
-  missing_ends gone status.Done h = absurd (not_held _ all source (h.built).bytes told gone (h.built).held)
+  pub missing_ends : all source ≡ None → (s : Status) → CompileEnds source image call s → (code s ≡ 3) ⊎ (code s ≡ 8)
+  missing_ends gone status.Done h = absurd (not_held _ all source (h.built).bytes fine.told gone (h.built).held)
   missing_ends gone status.Usage h = absurd h
   missing_ends gone status.NoImage h = absurd h
   missing_ends gone status.NoScript h = absurd h
   missing_ends gone (status.Ran end) h = absurd h
   missing_ends gone status.Unread h = inl refl
-  missing_ends gone status.Refused h = absurd (not_held _ all source h.bytes told gone h.held)
+  missing_ends gone status.Refused h = absurd (not_held _ all source h.bytes fine.told gone h.held)
   missing_ends gone status.Unwritten h = absurd (fine.writes h.cause)
   missing_ends gone status.Unput h = absurd (fine.puts h.cause)
   missing_ends gone status.NoMemory h = inr refl

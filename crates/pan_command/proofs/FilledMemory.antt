@@ -2,7 +2,7 @@
 use Rattle.std.proofs.Common.{◌≡◌, ℕ, ◌+◌, ◌%◌, ◌≤◌, List, [], ◌∷◌, ◌++◌, length, take, drop, fold, refl, sym, ap, ◌∙◌, subst, arith, length-append, length-drop}
 use Rattle.std.proofs.lemmas.List.{length-take-le, length-take, length-replicate}
 use Rattle.pan_base.specs.Words.{IsBytes}
-use Rattle.riscv_isa.specs.Machine.{IsLawfulMemory}
+use Rattle.pan_base.specs.Lawful.{IsLawfulMemory}
 use Rattle.command_words.specs.Words.{IsSize}
 use Rattle.device_script.specs.Memory.{overwritten, filled}
 use Rattle.device_script.specs.declared.line.Piece.{Piece}

@@ -4,7 +4,7 @@ use Rattle.pan_base.specs.Causes.{Rose}
 use Rattle.pan_base.specs.Files.{Files, NoneChanged}
 use Rattle.pan_base.specs.Sinks.{SinkState}
 use Rattle.device_script.specs.Script.{Content, script_of_file}
-use Rattle.pan_command.specs.Outside.{Outside, Holds, Lacks}
+use Rattle.pan_command.specs.Outside.{Outside, between, Holds, Lacks}
 use Rattle.pan_command.specs.Loading.{IsQuiet}
 use Rattle.pan_command.specs.Reading.{FileUnread, ScriptRead, ScriptRefused}
 
@@ -33,13 +33,13 @@ same_after None (Some g) c p q = absurd p
 same_after (Some f) None c p q = absurd p
 same_after (Some f) (Some g) None p q = absurd q
 
-pub quiet_after : (a b c : Outside) → IsQuiet a b → IsQuiet b c → IsQuiet a c
+pub quiet_after : (a b c : Outside) → IsQuiet (between a b) → IsQuiet (between b c) → IsQuiet (between a c)
 quiet_after a b c p q =
     let first : (a.files).failed_reads ≤ (b.files).failed_reads = p.reads in
     let second : (b.files).failed_reads ≤ (c.files).failed_reads = q.reads in
     record { out = q.out ∙ p.out; reads = omega (arith, first, second); writes = q.writes ∙ p.writes }
 
-module _ (before mid after : Outside) (same : NoneChanged (before.files).files (mid.files).files) (quiet : IsQuiet before mid) (name : List ℕ) where
+module _ (before mid after : Outside) (same : NoneChanged (before.files).files (mid.files).files) (quiet : IsQuiet (between before mid)) (name : List ℕ) where
   pub rose_before : Rose (mid.out).faults (after.out).faults → Rose (before.out).faults (after.out).faults
   rose_before h = subst (λ (o : SinkState). Rose o.faults (after.out).faults) quiet.out h
 
@@ -48,7 +48,7 @@ module _ (before mid after : Outside) (same : NoneChanged (before.files).files (
     pub put_before : (line : List ℕ) → Puts mid.out after.out line → Puts before.out after.out line
     put_before line h = subst (λ (o : SinkState). Puts o after.out line) quiet.out h
 
-    pub unread_before : FileUnread (Puts mid.out after.out) mid after name → FileUnread (Puts before.out after.out) before after name
+    pub unread_before : FileUnread (Puts mid.out after.out) (between mid after) name → FileUnread (Puts before.out after.out) (between before after) name
     unread_before u = record {
       cause = elim u.cause [ inl r ↦ inl (rose_after _ _ _ quiet.reads r) | inr l ↦ inr (lacks_before _ _ _ same l) ];
       line = put_before _ u.line;

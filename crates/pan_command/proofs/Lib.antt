@@ -1,4 +1,5 @@
 pub mod Told
+pub mod Results
 pub mod Following
 pub mod FilledMemory
 pub mod Reasons
@@ -13,4 +14,5 @@ pub mod CompileCompleteness
 pub mod CheckCompleteness
 pub mod RunCompleteness
 pub mod MeaningCompleteness
+pub mod Keeping
 pub mod WrongImage

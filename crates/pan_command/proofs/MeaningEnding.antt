@@ -1,11 +1,11 @@
 -- How a run by the meaning ends after its source was read, and after its script was.
-use Rattle.std.proofs.Common.{◌≡◌, ℕ, List, [], Err, subst, inl, inr}
+use Rattle.std.proofs.Common.{ℕ, List, [], Err, subst, inl, inr}
 use Rattle.pan_base.specs.Files.{NoneChanged}
 use Rattle.pan_base.specs.Sinks.{SinkState, Took, TookFront}
 use Rattle.command_words.specs.declared.order.Options.{Options}
 use Rattle.pan_command.specs.declared.status.Status.{Status}
 use Rattle.pan_command.specs.declared.status.Status.TheVariants as status
-use Rattle.pan_command.specs.Outside.{Outside}
+use Rattle.pan_command.specs.Outside.{Outside, Call, between}
 use Rattle.pan_command.specs.Reading.{SourceRead, ScriptRead}
 use Rattle.pan_command.specs.Playing.{MeansOut}
 use Rattle.pan_command.specs.Meaning.{MeaningCases, source_goes}
@@ -13,8 +13,8 @@ use Rattle.pan_command.specs.Loading.{IsQuiet, ProgramCases, ScriptCases}
 use Rattle.pan_command.proofs.Following.{rose_before, put_before, unread_before, refused_before}
 
 -- there is no program
-module _ (options : Options) (before after : Outside) (source script : List ℕ) where
-  pub program_ends : (s : Status) → ProgramCases source before after (Err s) → MeaningCases options source script before after s
+module _ (options : Options) (call : Call) (source script : List ℕ) where
+  pub program_ends : (s : Status) → ProgramCases source call (Err s) → MeaningCases options source script call s
   program_ends status.Done h = absurd h
   program_ends status.Usage h = absurd h
   program_ends status.Unread h = inl h
@@ -26,9 +26,9 @@ module _ (options : Options) (before after : Outside) (source script : List ℕ)
   program_ends status.NoMemory h = inl h
   program_ends (status.Ran end) h = absurd h
 
-module _ (options : Options) (before mid after : Outside) (source script : List ℕ) (read : SourceRead before source) (same : NoneChanged (before.files).files (mid.files).files) (quiet : IsQuiet before mid) where
+module _ (options : Options) (before mid after : Outside) (source script : List ℕ) (read : SourceRead before source) (same : NoneChanged (before.files).files (mid.files).files) (quiet : IsQuiet (between before mid)) where
   -- the script could not be read, or is refused
-  pub script_ends : (s : Status) → ScriptCases script mid after (Err s) → MeaningCases options source script before after s
+  pub script_ends : (s : Status) → ScriptCases script (between mid after) (Err s) → MeaningCases options source script (between before after) s
   script_ends status.Done h = absurd h
   script_ends status.Usage h = absurd h
   script_ends status.Unread h = inr (read, unread_before before mid after same quiet script Took h)
@@ -48,7 +48,7 @@ module _ (options : Options) (before mid after : Outside) (source script : List 
 
 -- the source ran
 module _ (options : Options) (before after : Outside) (source script : List ℕ) (p : SourceRead before source) (r : ScriptRead before script) where
-  ran_ends : (s : Status) → MeansOut (source_goes p.program r.script options) r.script options.steps before.out after.out s → MeaningCases options source script before after s
+  ran_ends : (s : Status) → MeansOut (source_goes p.program r.script options) r.script options.steps before.out after.out s → MeaningCases options source script (between before after) s
   ran_ends status.Done h = absurd h
   ran_ends status.Usage h = absurd h
   ran_ends status.Unread h = absurd h
@@ -60,5 +60,5 @@ module _ (options : Options) (before after : Outside) (source script : List ℕ)
   ran_ends status.NoMemory h = elim h [ inl nothing ↦ inl nothing | inr broken ↦ inr (p, r, broken) ]
   ran_ends (status.Ran end) h = (p, r, h)
 
-  pub go_ends : (mid : Outside) → IsQuiet before mid → (s : Status) → MeansOut (source_goes p.program r.script options) r.script options.steps mid.out after.out s → MeaningCases options source script before after s
+  pub go_ends : (mid : Outside) → IsQuiet (between before mid) → (s : Status) → MeansOut (source_goes p.program r.script options) r.script options.steps mid.out after.out s → MeaningCases options source script (between before after) s
   go_ends mid quiet s h = ran_ends s (subst (λ (o : SinkState). MeansOut (source_goes p.program r.script options) r.script options.steps o after.out s) quiet.out h)

@@ -1,6 +1,5 @@
 -- What a run puts, said of a behaviour that is the same.
-use Rattle.std.proofs.Common.{◌≡◌, ℕ, sym, ◌∙◌, subst, List, inl, inr, Bool, true, false}
-use Rattle.std.specs.Prelude.{◌⊎◌}
+use Rattle.std.proofs.Common.{◌≡◌, ℕ, sym, ◌∙◌, subst, List, inl, inr, Bool, true}
 use Rattle.std.proofs.lemmas.Bool.{false≢true}
 use Rattle.pan_base.specs.Events.{Replied, Event, Behaviour, IsPrefix}
 use Rattle.pan_base.specs.Sinks.{SinkState, Took, TookFront}
@@ -11,8 +10,8 @@ use Rattle.pan_command.specs.declared.status.Status.TheVariants as status
 use Rattle.pan_command.specs.Playing.{Goes, Plays, Begins, Played, Broken, PlayedInPart, PlaysOut, GoesOut, MeansOut}
 
 module _ (go went : Goes) (script : Content) (steps : ℕ) (same : (replies : List Replied) (k : ℕ) → go replies k ≡ went replies k) where
-  pub plays_as : (run : Behaviour) → Plays go script steps run → Plays went script steps run
-  plays_as run p = record { replies = p.replies; does = sym (same p.replies steps) ∙ p.does; last = p.last; given = p.given }
+  plays_as : (run : Behaviour) → Plays go script steps run → Plays went script steps run
+  plays_as run p = record { replies = p.replies; does = sym (same p.replies steps) ∙ p.does; given = p.given }
 
   begins_as : (events : List Event) → Begins go script steps events → Begins went script steps events
   begins_as events b = record { last = b.last; given = b.given; first = subst (λ (run : Behaviour). IsPrefix events run.events) (same _ steps) b.first }

@@ -1,18 +1,23 @@
 -- What a run over a script puts, by how it was driven.
-use Rattle.std.proofs.Common.{◌≡◌, ℕ, ◌+◌, ◌-◌, ◌≤◌, sym, ap, ◌∙◌, subst, List, [], ◌∷◌, ◌++◌, append_assoc, map, refl, inl, inr, None, arith}
+use Rattle.std.proofs.Common.{◌≡◌, ℕ, ◌+◌, ◌-◌, ◌≤◌, sym, ap, ◌∙◌, subst, List, [], ◌∷◌, ◌++◌, append_assoc, refl, None, arith}
 use Rattle.std.proofs.lemmas.List.{append-nil}
 use Rattle.std.proofs.lemmas.List.Concat.{flat_map-append}
-use Rattle.pan_base.specs.Events.{Asked, Replied, Event, Behaviour, before, IsPrefix, end_of}
+use Rattle.pan_base.specs.Events.{Asked, Replied, Event, Behaviour, before}
 use Rattle.pan_base.specs.Sinks.{SinkState, Took, TookFront}
 use Rattle.pan_base.specs.Trace.{event_line, trace_text, end_line}
 use Rattle.pan_base.specs.declared.events.End.{End}
-use Rattle.pan_base.proofs.TookLemmas.{Took-more, TookFront-on}
 use Rattle.pan_port.specs.Asker.{Meaning}
 use Rattle.pan_port.specs.Device.{Gave}
 use Rattle.pan_port.specs.Drive.{replies_of, after, Answered, AreGiven, Drove, Unwritten, Hungry}
 use Rattle.device_script.specs.Device.{DeviceState, Steps}
 use Rattle.device_script.specs.Script.{Content}
-use Rattle.pan_command.specs.Playing.{Goes, device, Plays, Begins, text_of, Played, Broken}
+use Rattle.device_script.specs.Runs.{device}
+use Rattle.pan_command.specs.Playing.{Plays, text_of, Played, Broken}
+
+-- what is known of sinks: texts are put one after another, and a front of a text after others
+pub record SinksGoOn : Type 0 where
+  pub more : (a b c : SinkState) (first second : List ℕ) → Took a b first → Took b c second → Took a c (first ++ second)
+  pub front : (a b c : SinkState) (first second rest all : List ℕ) → Took a b first → TookFront b c second → all ≡ first ++ (second ++ rest) → TookFront a c all
 
 -- ---- events
 
@@ -27,14 +32,13 @@ answered_more (e ∷ events) old mid new q r all given = (all.0, all.1, answered
 
 -- ---- the run came to an end
 
-module _ (a a' : Meaning) (script : Content) (d d' : DeviceState) (was now : SinkState) (steps : ℕ) (end : End) (is : d ≡ device script) (fresh : a.ended ≡ None)
+module _ (sinks : SinksGoOn) (a a' : Meaning) (script : Content) (d d' : DeviceState) (was now : SinkState) (steps : ℕ) (end : End) (is : d ≡ device script) (fresh : a.ended ≡ None)
     (ran : Drove Steps (λ s. s.stops) (λ s. s.silences) a a' d d' was now steps end) where
   plays : Plays a.go script steps (a.go ran.replies steps)
   plays = record {
     replies = ran.replies;
     does = refl;
-    last = d';
-    given = subst (λ s. AreGiven Steps s (a.go ran.replies steps) ran.replies d') is (ran.given fresh);
+    given = (d', subst (λ s. AreGiven Steps s (a.go ran.replies steps) ran.replies d') is (ran.given fresh));
   }
 
   -- the text is the lines of the trace, and the line of the end
@@ -46,7 +50,7 @@ module _ (a a' : Meaning) (script : Content) (d d' : DeviceState) (was now : Sin
     run = a.go ran.replies steps;
     plays = plays;
     ends = ran.ends;
-    text = subst (Took was new) (sym text_is) (Took-more was now new _ _ ran.took line);
+    text = subst (Took was new) (sym text_is) (sinks.more was now new _ _ ran.took line);
   }
 
   pub played_in_part : (new : SinkState) → TookFront now new (end_line end) → Played (TookFront was new) a.go script steps end
@@ -54,12 +58,12 @@ module _ (a a' : Meaning) (script : Content) (d d' : DeviceState) (was now : Sin
     run = a.go ran.replies steps;
     plays = plays;
     ends = ran.ends;
-    text = TookFront-on was now new _ (end_line end) [] _ ran.took line (text_is ∙ ap (λ t. trace_text (a.go ran.replies steps).events ++ t) (sym (append-nil (end_line end))));
+    text = sinks.front was now new _ (end_line end) [] _ ran.took line (text_is ∙ ap (λ t. trace_text (a.go ran.replies steps).events ++ t) (sym (append-nil (end_line end))));
   }
 
 -- ---- the run was broken off
 
-module _ (a a' : Meaning) (script : Content) (d d' : DeviceState) (was now : SinkState) (steps : ℕ) (is : d ≡ device script) where
+module _ (sinks : SinksGoOn) (a a' : Meaning) (script : Content) (d d' : DeviceState) (was now : SinkState) (steps : ℕ) (is : d ≡ device script) where
   -- the sink failed at the line of an event
   pub broken_at_line : Unwritten Steps a a' d d' was now steps → Broken (TookFront was now) a.go script steps
   broken_at_line u =
@@ -82,7 +86,7 @@ module _ (a a' : Meaning) (script : Content) (d d' : DeviceState) (was now : Sin
           given = subst (λ s. Answered Steps s events d') is (answered_more u.events d u.mid d' u.request u.reply (u.did).answered u.given);
           first = record { rest = (on.0).events; all = first };
         };
-        text = TookFront-on was u.put now (trace_text u.events) (event_line u.request u.reply) [] (trace_text events) (u.did).took u.front text;
+        text = sinks.front was u.put now (trace_text u.events) (event_line u.request u.reply) [] (trace_text events) (u.did).took u.front text;
       }
 
   -- the asker found no memory

@@ -6,19 +6,15 @@ use Rattle.pan_tree.specs.declared.program.Program.{Program}
 use Rattle.front_end.specs.Sources.{IsChecked, Unchecked}
 use Rattle.front_end.specs.declared.error.SourceError.{SourceError}
 use Rattle.front_end.specs.declared.error.SourceError.TheVariants as wrong
-use Rattle.front_end.proofs.Reasons.{no_error}
 use Rattle.straight_form.specs.Form.{IsStraight}
 use Rattle.pan_command.specs.Inner.{of_source}
-use Rattle.pan_command.specs.Served.{IsServed, IsUnsupported, Refuses}
+use Rattle.pan_command.specs.Served.{IsServed, IsUnsupported, IsRefusedFor}
 use Rattle.pan_command.specs.declared.error.BuildError.{BuildError}
 use Rattle.pan_command.specs.declared.error.BuildError.TheVariants.{Source, Unsupported, NoMemory}
-
--- this is answered, or there is no memory
-abbrev pub Gives : {A E : Type 0} → E → Result A E → Result A E → Type 0
-Gives none r x = (r ≡ x) ⊎ (r ≡ Err none)
+use Rattle.pan_command.proofs.Results.{Gives, no_error, same_value}
 
 -- a reason that is handed on
-pub refusal_so : (bytes : List ℕ) (f : SourceError) → (f ≡ wrong.NoMemory) ⊎ Unchecked bytes f → (of_source f ≡ NoMemory) ⊎ Refuses bytes (of_source f)
+pub refusal_so : (bytes : List ℕ) (f : SourceError) → (f ≡ wrong.NoMemory) ⊎ Unchecked bytes f → (of_source f ≡ NoMemory) ⊎ IsRefusedFor bytes (of_source f)
 refusal_so bytes f (inl none) = inl (ap of_source none)
 refusal_so bytes (wrong.Lex e) (inr h) = inr h
 refusal_so bytes (wrong.Parse e) (inr h) = inr h
@@ -41,7 +37,7 @@ module _ (bytes : List ℕ) (f : SourceError) (passes : (p : Program) → IsChec
     | inr x ↦ let none : f ≡ wrong.NoMemory = cc in inr (ap of_source none)
   ]
 
-  pub refused_first : (e : BuildError) → Refuses bytes e → (of_source f ≡ e) ⊎ (of_source f ≡ NoMemory)
+  pub refused_first : (e : BuildError) → IsRefusedFor bytes e → (of_source f ≡ e) ⊎ (of_source f ≡ NoMemory)
   refused_first (Source (wrong.Lex e)) h = told_so (wrong.Lex e) refl h
   refused_first (Source (wrong.Parse e)) h = told_so (wrong.Parse e) refl h
   refused_first (Source (wrong.Check e)) h = told_so (wrong.Check e) refl h
@@ -52,18 +48,18 @@ module _ (bytes : List ℕ) (f : SourceError) (passes : (p : Program) → IsChec
 -- it was read to this program
 module _ (bytes : List ℕ) (q : Program) (passes : (p : Program) → IsChecked bytes p → Gives {A = Program} wrong.NoMemory (Ok q) (Ok p)) (exact : (e : SourceError) → Unchecked bytes e → Gives {A = Program} wrong.NoMemory (Ok q) (Err e)) where
   pub is_program : (p : Program) → IsChecked bytes p → q ≡ p
-  is_program p s = elim (passes p s) [ inl x ↦ cc | inr x ↦ cc ]
+  is_program p s = sym (same_value wrong.NoMemory q p (passes p s))
 
   pub is_straight : (p : Program) → IsServed bytes p → IsStraight q
   is_straight p s = subst IsStraight (sym (is_program p s.checked)) s.straight
 
-  pub unsupported_only : (e : BuildError) → Refuses bytes e → e ≡ Unsupported
-  unsupported_only (Source e) h = absurd (no_error q _ _ (exact e h))
+  pub unsupported_only : (e : BuildError) → IsRefusedFor bytes e → e ≡ Unsupported
+  unsupported_only (Source e) h = absurd (no_error wrong.NoMemory e q (exact e h))
   unsupported_only Unsupported h = refl
   unsupported_only NoMemory h = absurd h
 
   is_supported : IsStraight q → ¬ IsUnsupported bytes
   is_supported straight u = u.other (subst IsStraight (is_program u.program u.checked) straight)
 
-  pub accepted : IsStraight q → (e : BuildError) → ¬ Refuses bytes e
-  accepted straight e h = is_supported straight (subst (Refuses bytes) (unsupported_only e h) h)
+  pub accepted : IsStraight q → (e : BuildError) → ¬ IsRefusedFor bytes e
+  accepted straight e h = is_supported straight (subst (IsRefusedFor bytes) (unsupported_only e h) h)

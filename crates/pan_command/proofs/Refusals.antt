@@ -1,39 +1,33 @@
--- What a refused source leaves, by what was answered.
-use Rattle.std.proofs.Common.{◌≡◌, ℕ, List, inl, inr, Ok, Err}
+-- What was read of a source or of an image, and what one that is refused leaves, by what was answered.
+use Rattle.std.proofs.Common.{◌≡◌, ℕ, List, Some, Ok, Err}
 use Rattle.std.specs.Prelude.{◌⊎◌}
-use Rattle.pan_base.specs.Files.{NoneChanged}
 use Rattle.pan_tree.specs.declared.program.Program.{Program}
 use Rattle.front_end.specs.Sources.{IsChecked, Unchecked}
 use Rattle.front_end.specs.declared.error.SourceError.{SourceError}
 use Rattle.front_end.specs.declared.error.SourceError.TheVariants as wrong
-use Rattle.front_end.proofs.Reasons.{no_error}
+use Rattle.riscv_isa.specs.Image.{ImageParts, ImageOf}
+use Rattle.image_file.specs.Faults.{fault_of}
+use Rattle.image_file.specs.declared.error.ImageError.{ImageError}
+use Rattle.image_file.specs.declared.error.ImageError.TheVariants as fault
 use Rattle.pan_command.specs.declared.error.BuildError.{BuildError}
 use Rattle.pan_command.specs.declared.error.BuildError.TheVariants.{Source, NoMemory}
-use Rattle.pan_command.specs.Outside.{Outside, Holds}
-use Rattle.pan_command.specs.Served.{IsServed, Refuses, source_line}
-use Rattle.pan_command.specs.Compile.{Refused}
+use Rattle.pan_command.specs.Outside.{Outside, Call, files_before, NoFileChanged, Holds}
+use Rattle.pan_command.specs.Served.{IsServed, IsRefusedFor, source_line}
+use Rattle.pan_command.specs.Compile.{CompileRefused}
 use Rattle.pan_command.specs.Check.{Unpassed}
-use Rattle.pan_command.specs.Reading.{IsSource}
-use Rattle.pan_command.proofs.Reasons.{Gives, is_program, starved_so}
-
--- a reason, where it isn't memory
-not_memory : {E : Type 0} (Why : E → Type 0) (none e : E) → (e ≡ none → ⊥) → (e ≡ none) ⊎ Why e → Why e
-not_memory Why none e other (inl is) = absurd (other is)
-not_memory Why none e other (inr h) = h
-
-same_error : {A E : Type 0} (none e f : E) → (f ≡ none → ⊥) → Gives {A = A} none (Err f) (Err e) → e ≡ f
-same_error none e f other (inl is) = cc
-same_error none e f other (inr is) = absurd (other (cc))
+use Rattle.pan_command.specs.Reading.{IsImage, IsSource}
+use Rattle.pan_command.specs.Run.{NoImage, image_line}
+use Rattle.pan_command.proofs.Results.{Gives, no_error, same_value, no_value, same_error, not_memory}
 
 -- the source was not compiled
-pub refused_so : (before after : Outside) (source bytes : List ℕ) (error : BuildError) → Holds (before.files).files source bytes → (error ≡ NoMemory → ⊥) → (error ≡ NoMemory) ⊎ Refuses bytes error
-    → ((e : BuildError) → Refuses bytes e → Gives {A = List ℕ} NoMemory (Err error) (Err e)) → ((p : Program) → IsServed bytes p → error ≡ NoMemory)
-    → (Prints : List ℕ → Type 0) → NoneChanged (before.files).files (after.files).files → Prints (source_line error) → Refused Prints before after source
-refused_so before after source bytes error held other refused exact served Prints unchanged line = record {
+pub refused_so : (call : Call) (source bytes : List ℕ) (error : BuildError) → Holds (files_before call) source bytes → (error ≡ NoMemory → ⊥) → (error ≡ NoMemory) ⊎ IsRefusedFor bytes error
+    → ((e : BuildError) → IsRefusedFor bytes e → Gives {A = List ℕ} NoMemory (Err error) (Err e)) → ((p : Program) → IsServed bytes p → error ≡ NoMemory)
+    → (Prints : List ℕ → Type 0) → NoFileChanged call → Prints (source_line error) → CompileRefused Prints call source
+refused_so call source bytes error held other refused exact served Prints unchanged line = record {
   bytes = bytes;
   held = held;
   reason = error;
-  refused = not_memory (Refuses bytes) NoMemory error other refused;
+  refused = not_memory (IsRefusedFor bytes) NoMemory error other refused;
   only = λ e h. same_error {A = List ℕ} NoMemory e error other (exact e h);
   unserved = λ p s. other (served p s);
   same = unchanged;
@@ -51,7 +45,7 @@ module _ (before : Outside) (source bytes : List ℕ) (held : Holds (before.file
     reason = error;
     refused = not_memory (Unchecked bytes) wrong.NoMemory error other refused;
     only = λ e h. same_error {A = Program} wrong.NoMemory e error other (exact e h);
-    unchecked = λ p s. other (starved_so bytes error passes exact p s);
+    unchecked = λ p s. no_value wrong.NoMemory error p other (passes p s);
     line = line;
   }
 
@@ -60,6 +54,24 @@ pub source_so : (bytes : List ℕ) (q : Program) → IsChecked bytes q
     → ((p : Program) → IsChecked bytes p → Gives {A = Program} wrong.NoMemory (Ok q) (Ok p)) → ((e : SourceError) → Unchecked bytes e → Gives {A = Program} wrong.NoMemory (Ok q) (Err e)) → IsSource bytes q
 source_so bytes q checked passes exact = record {
   checked = checked;
-  only = λ p s. let e = is_program bytes q passes exact p s in cc;
-  accepted = λ e h. no_error q _ _ (exact e h);
+  only = λ p s. same_value wrong.NoMemory q p (passes p s);
+  accepted = λ e h. no_error wrong.NoMemory e q (exact e h);
+}
+
+-- ---- images
+
+-- the bytes were read to these parts
+pub image_so : (bytes : List ℕ) (q : ImageParts) → ImageOf bytes q → ((p : ImageParts) → ImageOf bytes p → Gives fault.NoMemory (Ok q) (Ok p)) → IsImage bytes q
+image_so bytes q layout complete = record { layout = layout; only = λ p s. same_value fault.NoMemory q p (complete p s) }
+
+-- the bytes are no image
+pub no_image_so : (before : Outside) (image bytes : List ℕ) (e : ImageError) → Holds (before.files).files image bytes → (e ≡ fault.NoMemory → ⊥) → fault_of bytes ≡ Some e
+    → ((p : ImageParts) → ImageOf bytes p → Gives fault.NoMemory (Err e) (Ok p)) → (Prints : List ℕ → Type 0) → Prints (image_line e) → NoImage Prints before image
+no_image_so before image bytes e held other first complete Prints line = record {
+  bytes = bytes;
+  held = held;
+  never = λ p s. no_value fault.NoMemory e p other (complete p s);
+  fault = e;
+  first = first;
+  line = line;
 }

@@ -1,7 +1,7 @@
 -- What told files hold is one thing.
 use Rattle.std.proofs.Common.{◌≡◌, ℕ, List, Option, Some, None, sym, ap, ◌∙◌, inl, inr}
 use Rattle.pan_base.specs.Files.{Files}
-use Rattle.pan_command.specs.Outside.{Outside, Holds, Lacks, NoFault}
+use Rattle.pan_command.specs.Outside.{Call, files_before, Holds, Lacks, IsUndisturbed}
 use Rattle.pan_command.specs.Reading.{FileUnread}
 
 pub same_bytes : (o : Option Files) (all : Files) (name bytes other : List ℕ) → o ≡ Some all → all name ≡ Some bytes → Holds o name other → other ≡ bytes
@@ -26,7 +26,7 @@ not_held (Some f) all name bytes told gone h =
     cc
 
 -- a file that is there is read where no read failed
-pub not_unread : (Prints : List ℕ → Type 0) (before after : Outside) (all : Files) (name bytes : List ℕ) → (before.files).files ≡ Some all → all name ≡ Some bytes → NoFault before after
-    → FileUnread Prints before after name → ⊥
-not_unread Prints before after all name bytes told there fine u =
-    elim u.cause [ inl r ↦ fine.reads r | inr l ↦ not_lacks (before.files).files all name bytes told there l ]
+pub not_unread : (Prints : List ℕ → Type 0) (call : Call) (all : Files) (name bytes : List ℕ) → IsUndisturbed call all → all name ≡ Some bytes
+    → FileUnread Prints call name → ⊥
+not_unread Prints call all name bytes fine there u =
+    elim u.cause [ inl r ↦ fine.reads r | inr l ↦ not_lacks (files_before call) all name bytes fine.told there l ]

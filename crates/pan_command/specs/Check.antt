@@ -1,9 +1,6 @@
 -- What the action `check` leaves, by how it ends.
 use Rattle.std.specs.Prelude.{◌≡◌, ◌⊎◌, ℕ, List, [], ◌++◌, codes}
 use Rattle.std.specs.Fmt.{decimal}
-use Rattle.pan_base.specs.Causes.{Rose}
-use Rattle.pan_base.specs.Files.{NoneChanged}
-use Rattle.pan_base.specs.Sinks.{Took, TookFront}
 use Rattle.pan_tree.specs.Check.{program_weight}
 use Rattle.pan_tree.specs.declared.program.Program.{Program}
 use Rattle.pan_command.specs.declared.status.Status.{Status}
@@ -12,7 +9,7 @@ use Rattle.front_end.specs.Sources.{IsChecked, Unchecked}
 use Rattle.front_end.specs.declared.error.SourceError.{SourceError}
 use Rattle.pan_command.specs.declared.error.BuildError.TheVariants.{Source}
 use Rattle.pan_command.specs.Served.{source_line}
-use Rattle.pan_command.specs.Outside.{Outside, Holds}
+use Rattle.pan_command.specs.Outside.{Outside, Call, NoFileChanged, Holds, IsPut, IsPutInPart, PutFailed}
 use Rattle.pan_command.specs.Reading.{FileUnread, SourceRead}
 
 -- the line of a weight
@@ -37,21 +34,21 @@ pub record Unpassed (Prints : List ℕ → Type 0) (before : Outside) (source : 
   pub line : Prints (source_line (Source reason))
 
 -- a line could not be put, and what was put is a prefix of the line that was to be put
-pub record CheckUnput (before after : Outside) (source : List ℕ) : Type 0 where
-  pub cause : Rose (before.out).faults (after.out).faults
-  pub line : Passed (TookFront before.out after.out) before source
-      ⊎ (Unpassed (TookFront before.out after.out) before source
-      ⊎ FileUnread (TookFront before.out after.out) before after source)
+pub record CheckUnput (call : Call) (source : List ℕ) : Type 0 where
+  pub cause : PutFailed call
+  pub line : Passed (IsPutInPart call) call.before source
+      ⊎ (Unpassed (IsPutInPart call) call.before source
+      ⊎ FileUnread (IsPutInPart call) call source)
 
 -- how `check` ends, beside that no file changes
-abbrev pub CheckCases : List ℕ → Outside → Outside → Status → Type 0
-CheckCases source before after status.Done = Passed (Took before.out after.out) before source
-CheckCases source before after status.Unread = FileUnread (Took before.out after.out) before after source
-CheckCases source before after status.Refused = Unpassed (Took before.out after.out) before source
-CheckCases source before after status.Unput = CheckUnput before after source
-CheckCases source before after status.NoMemory = Took before.out after.out []
-CheckCases source before after _ = ⊥
+abbrev pub CheckCases : List ℕ → Call → Status → Type 0
+CheckCases source call status.Done = Passed (IsPut call) call.before source
+CheckCases source call status.Unread = FileUnread (IsPut call) call source
+CheckCases source call status.Refused = Unpassed (IsPut call) call.before source
+CheckCases source call status.Unput = CheckUnput call source
+CheckCases source call status.NoMemory = IsPut call []
+CheckCases source call _ = ⊥
 
 -- how `check` ends
-abbrev pub CheckEnds : List ℕ → Outside → Outside → Status → Type 0
-CheckEnds source before after s = NoneChanged (before.files).files (after.files).files × CheckCases source before after s
+abbrev pub CheckEnds : List ℕ → Call → Status → Type 0
+CheckEnds source call s = NoFileChanged call × CheckCases source call s

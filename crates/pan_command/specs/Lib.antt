@@ -10,4 +10,5 @@ pub mod Run
 pub mod Meaning
 pub mod Loading
 pub mod Command
+pub mod Promises
 pub mod Sample

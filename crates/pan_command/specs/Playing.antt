@@ -5,8 +5,9 @@ use Rattle.pan_base.specs.Events.{Replied, Event, Behaviour, IsPrefix, end_of}
 use Rattle.pan_base.specs.Sinks.{SinkState, Took, TookFront}
 use Rattle.pan_base.specs.Trace.{trace_text, end_line}
 use Rattle.pan_base.specs.declared.events.End.{End}
-use Rattle.pan_port.specs.Drive.{AreGiven, Answered, replies_of}
+use Rattle.pan_port.specs.Drive.{Answered, replies_of}
 use Rattle.device_script.specs.Device.{DeviceState, Steps}
+use Rattle.device_script.specs.Runs.{device, IsGiven}
 use Rattle.device_script.specs.Script.{Content}
 use Rattle.pan_command.specs.declared.status.Status.{Status}
 use Rattle.pan_command.specs.declared.status.Status.TheVariants as status
@@ -15,16 +16,11 @@ use Rattle.pan_command.specs.declared.status.Status.TheVariants as status
 abbrev pub Goes : Type 0
 Goes = List Replied → ℕ → Behaviour
 
--- the device of a script at its start
-abbrev pub device : Content → DeviceState
-device script = record { rules = script.rules; stops = 0; silences = 0 }
-
 -- The run over a script: what it does with the replies that the script's device gives to its requests, one after another.
 pub record Plays (go : Goes) (script : Content) (steps : ℕ) (run : Behaviour) : Type 0 where
   pub replies : List Replied
   pub does : go replies steps ≡ run
-  pub last : DeviceState
-  pub given : AreGiven Steps (device script) run replies last
+  pub given : IsGiven script run replies
 
 -- the first events of the run over a script, whose replies its device gave
 pub record Begins (go : Goes) (script : Content) (steps : ℕ) (events : List Event) : Type 0 where

@@ -1,16 +1,14 @@
 -- What was read of a source, of an image and of a script, and why there is none.
 use Rattle.std.specs.Prelude.{◌≡◌, ◌⊎◌, ℕ, List, ◌++◌, Ok, Err, codes}
 use Rattle.std.specs.Fmt.{decimal}
-use Rattle.pan_base.specs.Causes.{Rose}
 use Rattle.pan_tree.specs.declared.program.Program.{Program}
 use Rattle.front_end.specs.Sources.{IsChecked, Unchecked}
 use Rattle.front_end.specs.declared.error.SourceError.{SourceError}
-use Rattle.riscv_isa.specs.Image.{ImageOf}
-use Rattle.image_file.specs.Parts.{ImageParts}
+use Rattle.riscv_isa.specs.Image.{ImageParts, ImageOf}
 use Rattle.device_script.specs.Script.{Content, Refusal, script_of_file}
 use Rattle.device_script.specs.declared.error.Cause.{Cause}
 use Rattle.device_script.specs.declared.error.Cause.TheVariants as cause
-use Rattle.pan_command.specs.Outside.{Outside, Holds, Lacks}
+use Rattle.pan_command.specs.Outside.{Outside, Call, files_before, Holds, Lacks, ReadFailed}
 
 abbrev pub cause_text : Cause → List ℕ
 cause_text cause.Word = codes "Word"
@@ -34,6 +32,11 @@ pub record IsSource (bytes : List ℕ) (program : Program) : Type 0 where
   pub only : (other : Program) → IsChecked bytes other → other ≡ program
   pub accepted : (e : SourceError) → ¬ Unchecked bytes e
 
+-- the bytes are an image of these parts and of no others
+pub record IsImage (bytes : List ℕ) (parts : ImageParts) : Type 0 where
+  pub layout : ImageOf bytes parts
+  pub only : (others : ImageParts) → ImageOf bytes others → others ≡ parts
+
 -- the file was read and its bytes are a source
 pub record SourceRead (before : Outside) (name : List ℕ) : Type 0 where
   pub bytes : List ℕ
@@ -46,7 +49,7 @@ pub record ImageRead (before : Outside) (name : List ℕ) : Type 0 where
   pub bytes : List ℕ
   pub held : Holds (before.files).files name bytes
   pub parts : ImageParts
-  pub layout : ImageOf bytes parts.code parts.names parts.bound
+  pub image : IsImage bytes parts
 
 -- the file was read and its bytes are a script
 pub record ScriptRead (before : Outside) (name : List ℕ) : Type 0 where
@@ -58,8 +61,8 @@ pub record ScriptRead (before : Outside) (name : List ℕ) : Type 0 where
 -- In what follows `Prints line` says how far the line was put: all of it, or a prefix.
 
 -- a file could not be read: a read failed, or there is no such file
-pub record FileUnread (Prints : List ℕ → Type 0) (before after : Outside) (name : List ℕ) : Type 0 where
-  pub cause : Rose (before.files).failed_reads (after.files).failed_reads ⊎ Lacks (before.files).files name
+pub record FileUnread (Prints : List ℕ → Type 0) (call : Call) (name : List ℕ) : Type 0 where
+  pub cause : ReadFailed call ⊎ Lacks (files_before call) name
   pub line : Prints (codes "read " ++ name ++ codes "\n")
 
 -- the script is refused

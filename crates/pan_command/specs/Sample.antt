@@ -1,11 +1,12 @@
--- A program and the code of an image that isn't faithful to it.
-use Rattle.std.specs.Prelude.{ℕ, List, [], ◌∷◌, codes}
+-- A program, and the parts of an image that isn't faithful to it.
+use Rattle.std.specs.Prelude.{ℕ, [], ◌∷◌, codes, Option}
 use Rattle.pan_base.specs.declared.span.Span.{Span}
 use Rattle.pan_tree.specs.declared.shape.Shape.TheVariants as shape
 use Rattle.pan_tree.specs.declared.syntax.ExprKind.TheVariants as expr
 use Rattle.pan_tree.specs.declared.syntax.StmtKind.TheVariants as stmt
 use Rattle.pan_tree.specs.declared.program.Function.{Function}
 use Rattle.pan_tree.specs.declared.program.Program.{Program}
+use Rattle.riscv_isa.specs.Image.{ImageParts}
 
 abbrev pub nowhere : Span
 nowhere = record { start = 0; end = 0 }
@@ -23,6 +24,6 @@ main_of_seven = record {
 abbrev pub returns_seven : Program
 returns_seven = record { exceptions = []; functions = main_of_seven ∷ [] }
 
--- `ecall` alone, which at the start of a run exits with 0
-abbrev pub exits_at_once : List ℕ
-exits_at_once = 0x73 ∷ 0 ∷ 0 ∷ 0 ∷ []
+-- the parts of an image with `ecall` alone, which at the start of a run exits with 0
+abbrev pub exits_at_once : Option ℕ → ImageParts
+exits_at_once bound = record { code = 0x73 ∷ 0 ∷ 0 ∷ 0 ∷ []; names = []; bound = bound }

@@ -20,10 +20,10 @@ pub record IsUnsupported (bytes : List ℕ) : Type 0 where
   pub other : ¬ IsStraight program
 
 -- why a source is refused
-abbrev pub Refuses : List ℕ → BuildError → Type 0
-Refuses bytes (build.Source e) = Unchecked bytes e
-Refuses bytes build.Unsupported = IsUnsupported bytes
-Refuses bytes build.NoMemory = ⊥
+abbrev pub IsRefusedFor : List ℕ → BuildError → Type 0
+IsRefusedFor bytes (build.Source e) = Unchecked bytes e
+IsRefusedFor bytes build.Unsupported = IsUnsupported bytes
+IsRefusedFor bytes build.NoMemory = ⊥
 
 -- a place, and the name of a cause
 abbrev pub caused : ℕ → List ℕ → List ℕ

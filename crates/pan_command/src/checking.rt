@@ -1,6 +1,6 @@
 //! The action `check`.
 
-ghost use Rattle.pan_command.specs.Outside.{outside};
+ghost use Rattle.pan_command.specs.Outside.{the_call};
 ghost use Rattle.pan_command.specs.Check.{CheckEnds};
 
 use crate::lines::put_weight_line;
@@ -16,7 +16,7 @@ pub fn check<W: Workspace, O: Sink>(
     files: &mut W,
     out: &mut O,
 ) -> Status
-    ensures { CheckEnds source.now (outside (W.state files.old) (O.state out.old)) (outside (W.state files.new) (O.state out.new)) result }
+    ensures { CheckEnds source.now (the_call (W.state files.old) (O.state out.old) (W.state files.new) (O.state out.new)) result }
 {
     let program = match load_program(alloc, source, files, out) {
         Ok(program) => program,

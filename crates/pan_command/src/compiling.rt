@@ -1,6 +1,6 @@
 //! The action `compile`.
 
-ghost use Rattle.pan_command.specs.Outside.{outside};
+ghost use Rattle.pan_command.specs.Outside.{the_call};
 ghost use Rattle.pan_command.specs.Compile.{CompileEnds, StoreEnds};
 
 use crate::building::build;
@@ -19,7 +19,7 @@ fn store<W: Workspace, O: Sink>(
     files: &mut W,
     out: &mut O,
 ) -> Status
-    ensures { StoreEnds name.now image.now (outside (W.state files.old) (O.state out.old)) (outside (W.state files.new) (O.state out.new)) result }
+    ensures { StoreEnds name.now image.now (the_call (W.state files.old) (O.state out.old) (W.state files.new) (O.state out.new)) result }
 {
     match files.write(alloc, name, image) {
         Ok(()) => match put_all(out, b"bound none\n") {
@@ -42,7 +42,7 @@ pub fn compile<W: Workspace, O: Sink>(
     files: &mut W,
     out: &mut O,
 ) -> Status
-    ensures { CompileEnds source.now image.now (outside (W.state files.old) (O.state out.old)) (outside (W.state files.new) (O.state out.new)) result }
+    ensures { CompileEnds source.now image.now (the_call (W.state files.old) (O.state out.old) (W.state files.new) (O.state out.new)) result }
 {
     let bytes = match read_file(alloc, source, files, out) {
         Ok(bytes) => bytes,

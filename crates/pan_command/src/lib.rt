@@ -13,8 +13,6 @@ mod meaning;
 mod playing;
 mod running;
 mod status;
-#[cfg(test)]
-mod tests;
 
 pub use command::panc;
 pub use error::BuildError;

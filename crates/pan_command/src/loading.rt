@@ -1,7 +1,7 @@
 //! Reads the files of an action: sources, images and scripts.
 
 ghost use Rattle.std.specs.Prelude.{◌≡◌};
-ghost use Rattle.pan_command.specs.Outside.{outside};
+ghost use Rattle.pan_command.specs.Outside.{the_call};
 ghost use Rattle.pan_command.specs.Loading.{ReadsFile, ReadsImage, ReadsProgram, ReadsScript};
 
 use crate::error::BuildError;
@@ -21,7 +21,7 @@ pub fn read_file<W: Workspace, O: Sink>(
     files: &mut W,
     out: &mut O,
 ) -> Result<Blob, Status>
-    ensures { ReadsFile name.now (outside (W.state files.old) (O.state out.old)) (outside (W.state files.new) (O.state out.new)) result }
+    ensures { ReadsFile name.now (the_call (W.state files.old) (O.state out.old) (W.state files.new) (O.state out.new)) result }
 {
     match files.read(alloc, name) {
         Ok(bytes) => Ok(bytes),
@@ -40,7 +40,7 @@ pub fn load_image<W: Workspace, O: Sink>(
     files: &mut W,
     out: &mut O,
 ) -> Result<Image, Status>
-    ensures { ReadsImage name.now (outside (W.state files.old) (O.state out.old)) (outside (W.state files.new) (O.state out.new)) result }
+    ensures { ReadsImage name.now (the_call (W.state files.old) (O.state out.old) (W.state files.new) (O.state out.new)) result }
 {
     let bytes = match read_file(alloc, name, files, out) {
         Ok(bytes) => bytes,
@@ -63,7 +63,7 @@ pub fn load_program<W: Workspace, O: Sink>(
     files: &mut W,
     out: &mut O,
 ) -> Result<Checked, Status>
-    ensures { ReadsProgram name.now (outside (W.state files.old) (O.state out.old)) (outside (W.state files.new) (O.state out.new)) result }
+    ensures { ReadsProgram name.now (the_call (W.state files.old) (O.state out.old) (W.state files.new) (O.state out.new)) result }
 {
     let bytes = match read_file(alloc, name, files, out) {
         Ok(bytes) => bytes,
@@ -86,7 +86,7 @@ pub fn load_script<W: Workspace, O: Sink>(
     files: &mut W,
     out: &mut O,
 ) -> Result<Script, Status>
-    ensures { ReadsScript name.now (outside (W.state files.old) (O.state out.old)) (outside (W.state files.new) (O.state out.new)) result }
+    ensures { ReadsScript name.now (the_call (W.state files.old) (O.state out.old) (W.state files.new) (O.state out.new)) result }
 {
     let bytes = match read_file(alloc, name, files, out) {
         Ok(bytes) => bytes,

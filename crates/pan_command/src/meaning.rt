@@ -2,7 +2,7 @@
 
 ghost use Rattle.std.specs.Prelude.{◌≡◌};
 ghost use Rattle.command_words.specs.Words.{IsSize};
-ghost use Rattle.pan_command.specs.Outside.{outside};
+ghost use Rattle.pan_command.specs.Outside.{the_call};
 ghost use Rattle.pan_command.specs.Meaning.{MeaningEnds, source_goes};
 ghost use Rattle.pan_command.specs.Playing.{MeansOut};
 
@@ -47,7 +47,7 @@ pub fn meaning<W: Workspace, O: Sink>(
     out: &mut O,
 ) -> Status
     requires { IsSize 8 options.local }
-    ensures { MeaningEnds options source.now script.now (outside (W.state files.old) (O.state out.old)) (outside (W.state files.new) (O.state out.new)) result }
+    ensures { MeaningEnds options source.now script.now (the_call (W.state files.old) (O.state out.old) (W.state files.new) (O.state out.new)) result }
 {
     let program = match load_program(alloc, source, files, out) {
         Ok(program) => program,

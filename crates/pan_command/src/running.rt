@@ -3,7 +3,7 @@
 ghost use Rattle.std.specs.Prelude.{◌≡◌, ◌≤◌, ◌%◌, length, IfOk};
 ghost use Rattle.command_words.specs.Words.{IsSize};
 ghost use Rattle.device_script.specs.Memory.{filled};
-ghost use Rattle.pan_command.specs.Outside.{outside};
+ghost use Rattle.pan_command.specs.Outside.{the_call};
 ghost use Rattle.pan_command.specs.Playing.{GoesOut};
 ghost use Rattle.pan_command.specs.Run.{RunEnds, image_goes};
 
@@ -54,7 +54,7 @@ pub fn run<W: Workspace, O: Sink>(
 ) -> Status
     requires local { IsSize 8 options.local }
     requires stack { IsSize 16 options.stack }
-    ensures { RunEnds options image.now script.now (outside (W.state files.old) (O.state out.old)) (outside (W.state files.new) (O.state out.new)) result }
+    ensures { RunEnds options image.now script.now (the_call (W.state files.old) (O.state out.old) (W.state files.new) (O.state out.new)) result }
 {
     let loaded = match load_image(alloc, image, files, out) {
         Ok(loaded) => loaded,

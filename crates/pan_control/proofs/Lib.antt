@@ -1,3 +1,4 @@
 pub mod Bound
 pub mod More
 pub mod Worlds
+pub mod Ends

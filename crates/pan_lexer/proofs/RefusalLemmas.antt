@@ -46,6 +46,21 @@ module _ (bytes rest : List ℕ) (place : ℕ) (stuck : IsStuckAt bytes place re
       ∙ ap (λ t. cond t (OpenComment place) (BadByte place)) same.1)
   only_error short NoMemory r = absurd r
 
+-- it is refused for one reason
+at_place : (bytes rest : List ℕ) (place : ℕ) → IsStuckAt bytes place rest → length bytes ≤ source_limit → (e f : LexError) → Refusal bytes e → Refusal bytes f → e ≡ f
+at_place bytes rest place stuck short e f r s = only_error bytes rest place stuck short e r ∙ sym (only_error bytes rest place stuck short f s)
+
+pub one_refusal : (bytes : List ℕ) (e f : LexError) → Refusal bytes e → Refusal bytes f → e ≡ f
+one_refusal bytes TooLong TooLong r s = refl
+one_refusal bytes TooLong (BadByte q) r s = let short : length bytes ≤ source_limit = s.short in absurd (omega arith)
+one_refusal bytes TooLong (BadNumber q) r s = let short : length bytes ≤ source_limit = s.short in absurd (omega arith)
+one_refusal bytes TooLong (OpenComment q) r s = let short : length bytes ≤ source_limit = s.short in absurd (omega arith)
+one_refusal bytes TooLong NoMemory r s = absurd s
+one_refusal bytes (BadByte q) f r s = at_place bytes r.rest q r.stuck r.short (BadByte q) f r s
+one_refusal bytes (BadNumber q) f r s = at_place bytes r.rest q r.stuck r.short (BadNumber q) f r s
+one_refusal bytes (OpenComment q) f r s = at_place bytes r.rest q r.stuck r.short (OpenComment q) f r s
+one_refusal bytes NoMemory f r s = absurd r
+
 -- ---- the answers of `lex`
 
 pub error_lexed : (bytes : List ℕ) (e : LexError) → (e ≡ NoMemory) ⊎ IsStuckBy bytes e → (row : List Placed) → Lexes bytes row → e ≡ NoMemory

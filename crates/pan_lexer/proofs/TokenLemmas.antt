@@ -4,17 +4,17 @@ use Rattle.std.specs.List.{list_all}
 use Rattle.std.proofs.Math.Seq.{drop-append_seam}
 use Rattle.std.proofs.lemmas.Bool.Decides.{nat_tests, Decides-eqb}
 use Rattle.pan_base.specs.Names.{is_digit, is_letter, is_word_byte, is_spelled}
-use Rattle.pan_base.specs.Spelling.{is_hex_digit, IsNumeral, Decimal, Hexadecimal, begins_no_word}
+use Rattle.pan_base.specs.Spelling.{is_hex_digit, numeral, IsNumeral, Decimal, Hexadecimal, begins_no_word}
 use Rattle.pan_base.specs.Tokens.{Kind, Name, Reserved, Number, Load, Store, Foreign, Base, Biw, ASign, Spells, IsLongest, keyword_text, bits_text, sign_text}
 use Rattle.pan_base.specs.declared.events.Size.{Size}
 use Rattle.pan_base.specs.declared.events.Size.TheVariants.{B1, B2, B4, B8}
 use Rattle.pan_base.specs.declared.tokens.Keyword.{Keyword}
 use Rattle.pan_base.specs.declared.tokens.Sign.{Sign}
 use Rattle.pan_base.specs.declared.tokens.Sign.TheVariants as sign
-use Rattle.pan_lexer.specs.Pieces.{word_of, after_word, number_of, keyword_of, named, access_of, begins_letter, foreign_of, sign_of, number_token, word_token, access_token, foreign_token, sign_token, or_else, token_of}
+use Rattle.pan_lexer.specs.Pieces.{word_of, after_word, keyword_of, named, access_of, begins_letter, foreign_of, sign_of, number_token, word_token, access_token, foreign_token, sign_token, or_else, token_of}
 use Rattle.pan_lexer.proofs.TestLemmas.{both_true, if_some, mapped_some, no_some}
 use Rattle.pan_lexer.proofs.KindLemmas.{keyword_spelled, named_spells, name_named, keyword_named, IsAccess, Loads, Stores, access_is, load_found, store_found, IsForeign, TheBase, TheBiw, TheName, foreign_is, foreign_found, base_found, biw_found}
-use Rattle.pan_lexer.proofs.NumeralLemmas.{number_spelled, number_of_spelled}
+use Rattle.pan_lexer.proofs.NumeralLemmas.{numeral_spelled, numeral_is}
 use Rattle.pan_lexer.proofs.SignLemmas.{sign_at, sign_given}
 use Rattle.pan_lexer.proofs.WordLemmas.{word_split, word_passes, after_word_stops, word_is, after_word_is, word_begins, letter_is_word, digit_is_word}
 
@@ -40,11 +40,11 @@ word_spelled b bs is =
 number_found : (bytes : List ℕ) (t : Kind × List ℕ) → number_token bytes ≡ Some t → Found bytes t
 unfolding number_token
 number_found bytes t =
-    mapped_some (λ n. (Number n, after_word bytes)) (number_of (word_of bytes)) t
+    mapped_some (λ n. (Number n, after_word bytes)) (numeral (word_of bytes)) t
     (λ n is same. subst (Found bytes) same (record {
       text = word_of bytes;
       all = word_split bytes;
-      spelled = number_spelled (word_of bytes) n is;
+      spelled = numeral_spelled (word_of bytes) n is;
       longest = after_word_stops bytes;
     }))
 
@@ -163,17 +163,17 @@ number_step : (b : ℕ) (bs : List ℕ) → is_digit b ≡ true → token_of (b 
 unfolding token_of
 number_step b bs first = rw first refl
 
-number_token_is : (word rest : List ℕ) (n : ℕ) → list_all is_word_byte word ≡ true → begins_no_word rest ≡ true → number_of word ≡ Some n → number_token (word ++ rest) ≡ Some (Number n, rest)
+number_token_is : (word rest : List ℕ) (n : ℕ) → list_all is_word_byte word ≡ true → begins_no_word rest ≡ true → numeral word ≡ Some n → number_token (word ++ rest) ≡ Some (Number n, rest)
 unfolding number_token
 number_token_is word rest n all end value =
-    ap (λ after. option_map (λ n. (Number n, after)) (number_of (word_of (word ++ rest)))) (after_word_is word rest all end)
-    ∙ ap (λ word. option_map (λ n. (Number n, rest)) (number_of word)) (word_is word rest all end)
+    ap (λ after. option_map (λ n. (Number n, after)) (numeral (word_of (word ++ rest)))) (after_word_is word rest all end)
+    ∙ ap (λ word. option_map (λ n. (Number n, rest)) (numeral word)) (word_is word rest all end)
     ∙ ap (option_map (λ n. (Number n, rest))) value
 
 number_given : (text rest : List ℕ) (n : ℕ) → IsNumeral text n → n < 2 ^ 64 → begins_no_word rest ≡ true → token_of (text ++ rest) ≡ Some (Number n, rest)
-number_given text rest n numeral small end =
-    let w = numeral_word text n numeral in
-    let value : number_of (w.0 ∷ w.1) ≡ Some n = ap number_of (sym w.2) ∙ number_of_spelled text n numeral small in
+number_given text rest n spelled small end =
+    let w = numeral_word text n spelled in
+    let value : numeral (w.0 ∷ w.1) ≡ Some n = ap numeral (sym w.2) ∙ numeral_is text n spelled small in
     ap (λ text. token_of (text ++ rest)) w.2 ∙ number_step w.0 (w.1 ++ rest) w.3 ∙ number_token_is (w.0 ∷ w.1) rest n w.4 end value
 
 word_step : (b : ℕ) (bs : List ℕ) → is_letter b ≡ true → token_of (b ∷ bs) ≡ word_token (b ∷ bs)

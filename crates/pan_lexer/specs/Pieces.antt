@@ -1,9 +1,9 @@
 -- What a text begins with, by its first byte.
-use Rattle.std.specs.Prelude.{ℕ, ◌^◌, ◌&&◌, ◌==◌, not, nat_lt, Bool, false, if◌then◌else◌, List, [], ◌∷◌, drop, take, length, codes, Option, Some, None, option_map, nat_eq}
-use Rattle.std.specs.List.{find, list_all, prefix_len, starts_with, take_while}
+use Rattle.std.specs.Prelude.{ℕ, ◌&&◌, ◌==◌, not, Bool, false, if◌then◌else◌, List, [], ◌∷◌, drop, take, length, codes, Option, Some, None, option_map, nat_eq}
+use Rattle.std.specs.List.{find, prefix_len, starts_with, take_while}
 use Rattle.std.specs.Str.{bytes_eq}
 use Rattle.pan_base.specs.Names.{is_digit, is_letter, is_word_byte}
-use Rattle.pan_base.specs.Spelling.{is_space, is_hex_digit, digit_value, value_after}
+use Rattle.pan_base.specs.Spelling.{is_space, numeral}
 use Rattle.pan_base.specs.Tokens.{Kind, Name, Reserved, Number, Load, Store, Foreign, Base, Biw, ASign, keywords, keyword_text, sign_text, bits_text}
 use Rattle.pan_base.specs.declared.events.Size.{Size}
 use Rattle.pan_base.specs.declared.events.Size.TheVariants.{B1, B2, B4, B8}
@@ -18,24 +18,6 @@ word_of bytes = take_while is_word_byte bytes
 -- what follows that front
 unfoldable pub after_word : List ℕ → List ℕ
 after_word bytes = drop (prefix_len is_word_byte bytes) bytes
-
--- a digit of the base, which is at most 16
-abbrev pub is_digit_in : ℕ → ℕ → Bool
-is_digit_in base b = is_hex_digit b && nat_lt (digit_value b) base
-
--- what a digit of the base stands for
-abbrev pub digit_of : ℕ → ℕ → Option ℕ
-digit_of base b = if is_digit_in base b then Some (digit_value b) else None
-
--- the number that digits of the base stand for, where there is a digit and the number is below 2 ^ 64
-abbrev pub value_of : ℕ → List ℕ → Option ℕ
-value_of base [] = None
-value_of base (d ∷ ds) =
-    if list_all (is_digit_in base) (d ∷ ds) && nat_lt (value_after base 0 (d ∷ ds)) (2 ^ 64) then Some (value_after base 0 (d ∷ ds)) else None
-
--- the number that a word spells
-unfoldable pub number_of : List ℕ → Option ℕ
-number_of word = if bytes_eq (take 2 word) (codes "0x") then value_of 16 (drop 2 word) else value_of 10 word
 
 -- the reserved word
 unfoldable pub keyword_of : List ℕ → Option Keyword
@@ -83,7 +65,7 @@ sign_of bytes = find (λ s. starts_with nat_eq bytes (sign_text s)) longest_firs
 
 -- the number that the text begins with
 unfoldable pub number_token : List ℕ → Option (Kind × List ℕ)
-number_token bytes = option_map (λ n. (Number n, after_word bytes)) (number_of (word_of bytes))
+number_token bytes = option_map (λ n. (Number n, after_word bytes)) (numeral (word_of bytes))
 
 -- the name or reserved word that the text begins with
 unfoldable pub word_token : List ℕ → Option (Kind × List ℕ)

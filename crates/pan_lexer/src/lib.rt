@@ -6,7 +6,6 @@ mod comments;
 mod error;
 mod laws;
 mod lexing;
-mod numerals;
 mod pieces;
 mod signs;
 #[cfg(test)]
@@ -15,6 +14,6 @@ mod tokens;
 mod words;
 
 pub use error::LexError;
-pub use laws::{no_row_where_stuck, one_row, one_stuck_place, row_or_stuck};
+pub use laws::{no_row_where_stuck, one_refusal, one_row, one_stuck_place, row_or_stuck};
 pub use lexing::{MAX_SOURCE_LEN, lex};
 pub use tokens::Tokens;

@@ -7,9 +7,9 @@ ghost use Rattle.pan_lexer.specs.Found.{kind_in};
 
 use crate::bytes::{first, is_letter, split_word};
 use crate::comments::after_gap;
-use crate::numerals::number;
 use crate::signs::{sign, sign_len};
 use crate::words::{access, foreign, keyword};
+use numerals::number;
 use pan_base::TokenKind;
 
 /// What a text begins with.

@@ -132,6 +132,16 @@ same_halt ts end (error.TooDeep p) (error.TooDeep q) h r =
 same_halt ts end (error.Syntax p) (error.TooDeep q) h r = let i = refusal_halts ts end (error.TooDeep q) r in absurd (not_both h.2 i.2)
 same_halt ts end (error.TooDeep p) (error.Syntax q) h r = let i = refusal_halts ts end (error.Syntax q) r in absurd (not_both i.2 h.2)
 
+-- tokens are refused for one reason
+pub one_refusal : (ts : List Placed) (end : ℕ) (d e : ParseError) → Refusal ts end d → Refusal ts end e → d ≡ e
+one_refusal ts end d e r s = ⊎_elim (λ same. same) (λ none. absurd (subst (Refusal ts end) none r)) (same_halt ts end d e (refusal_halts ts end d r) s)
+
+-- and those that spell a program for none
+pub spelled_unrefused : (ts : List Placed) (end : ℕ) (p : Program) (e : ParseError) → Tree ts p → ¬ Refusal ts end e
+spelled_unrefused ts end p error.NoMemory d r = r
+spelled_unrefused ts end p (error.Syntax place) d r = not_refused (accepted d) (refusal_halts ts end (error.Syntax place) r).2
+spelled_unrefused ts end p (error.TooDeep place) d r = not_deep (accepted d) (refusal_halts ts end (error.TooDeep place) r).2
+
 abbrev answer : ParseError → Result Program ParseError
 answer e = Err e
 

@@ -5,6 +5,7 @@ use Rattle.std.proofs.lemmas.Bool.{and_from}
 use Rattle.std.proofs.lemmas.List.Elements.{recursion_from_All}
 use Rattle.std.proofs.lemmas.List.Folds.{list_all-map}
 use Rattle.pan_base.specs.Tokens.{Placed, Foreign}
+use Rattle.pan_base.specs.Names.{is_foreign_name}
 use Rattle.pan_lexer.specs.TokenRow.{IsSpelled}
 use Rattle.pan_tree.specs.declared.spanned.Spanned.{Spanned}
 use Rattle.pan_tree.specs.declared.syntax.Target.{Target}
@@ -15,16 +16,13 @@ use Rattle.pan_tree.specs.declared.syntax.StmtKind.TheVariants as s
 use Rattle.pan_tree.specs.declared.program.Exception.{Exception}
 use Rattle.pan_tree.specs.declared.program.Function.{Function}
 use Rattle.pan_tree.specs.declared.program.Program.{Program}
-use Rattle.pan_tree.specs.Check.{is_foreign_name, lawful_layer, lawful_kind, HasLawfulNames}
+use Rattle.pan_tree.specs.Check.{lawful_layer, lawful_kind, HasLawfulNames}
 use Rattle.pan_tree.specs.Nodes.{Expr}
 use Rattle.pan_tree.specs.Grammar.{Stmt, Block, Handler, AnExpr, ExprEnd, TwoExprs, AStmt, skip, declaration, declaration_call, assignment, assignment_call, shared_load, call, store_words, store_byte, branch, loop, break, continue, return, tail_call, raise, shared_store, foreign, CallEnd, call_end, MayHandle, no_handler, handler, ABlock, block, Stmts, no_stmt, next_stmt, AFunction, function, Items, no_item, next_exception, next_function, Within, Tree}
+use Rattle.pan_tree.proofs.CheckLayers.{lawful_at}
 use Rattle.pan_parser.proofs.Tails.{after_expr, after_plain, after_end, after_two, after_params, after_result, after_exception}
 
 -- ---- at each variant
-
-at_variant : (y : StmtKind-F StmtKind) (x : StmtKind) → roll-StmtKind y ≡ x → lawful_kind x ≡ lawful_layer (map-StmtKind StmtKind Bool lawful_kind y)
-unfolding lawful_kind
-at_variant y x is = ap lawful_kind (sym is) ∙ fold-roll-StmtKind Bool lawful_layer y
 
 abbrev lawful_block : Block → Bool
 lawful_block b = list_all (λ (x : Stmt). lawful_kind x.kind) b.stmts
@@ -40,19 +38,19 @@ block_same : (b : Block) → list_all (λ (x : Spanned Bool). x.kind) (map lawfu
 block_same b = list_all-map (λ (x : Spanned Bool). x.kind) lawful_stmt b.stmts
 
 lawful_if : (x : Expr) (y z : Block) → lawful_kind (s.If x y z) ≡ (lawful_block y && lawful_block z)
-lawful_if x y z = at_variant (open_stmt.If x y z) (s.If x y z) (s.rolls-If x y z) ∙ ap₂ ◌&&◌ (block_same y) (block_same z)
+lawful_if x y z = lawful_at (open_stmt.If x y z) (s.If x y z) (s.rolls-If x y z) ∙ ap₂ ◌&&◌ (block_same y) (block_same z)
 
 lawful_while : (x : Expr) (y : Block) → lawful_kind (s.While x y) ≡ lawful_block y
-lawful_while x y = at_variant (open_stmt.While x y) (s.While x y) (s.rolls-While x y) ∙ block_same y
+lawful_while x y = lawful_at (open_stmt.While x y) (s.While x y) (s.rolls-While x y) ∙ block_same y
 
 lawful_call : (into : Target) (f : List ℕ) (xs : List Expr) (h : Option Handler) → lawful_kind (s.Call (record { into = into; function = f; args = xs; handler = h })) ≡ lawful_handler h
 lawful_call into f xs None =
-    at_variant (open_stmt.Call (record { into = into; function = f; args = xs; handler = None })) _ (s.rolls-Call (record { into = into; function = f; args = xs; handler = None }))
+    lawful_at (open_stmt.Call (record { into = into; function = f; args = xs; handler = None })) _ (s.rolls-Call (record { into = into; function = f; args = xs; handler = None }))
 lawful_call into f xs (Some h) =
-    at_variant (open_stmt.Call (record { into = into; function = f; args = xs; handler = Some h })) _ (s.rolls-Call (record { into = into; function = f; args = xs; handler = Some h })) ∙ block_same h.body
+    lawful_at (open_stmt.Call (record { into = into; function = f; args = xs; handler = Some h })) _ (s.rolls-Call (record { into = into; function = f; args = xs; handler = Some h })) ∙ block_same h.body
 
 lawful_foreign : (f : List ℕ) (x y z w : Expr) → lawful_kind (s.Foreign f x y z w) ≡ is_foreign_name f
-lawful_foreign f x y z w = at_variant (open_stmt.Foreign f x y z w) (s.Foreign f x y z w) (s.rolls-Foreign f x y z w)
+lawful_foreign f x y z w = lawful_at (open_stmt.Foreign f x y z w) (s.Foreign f x y z w) (s.rolls-Foreign f x y z w)
 
 -- ---- tokens
 
@@ -83,27 +81,27 @@ module _ (May : ℕ → List Placed → Type 0) where
 
   mutual
     stmt_lawful : {k : ℕ} {a b : List Placed} {x : Stmt} → AStmt May k a b x → Spelled a → IsTrue (lawful_kind x.kind) × Spelled b
-    stmt_lawful (skip k t u a m n) h = (at_variant open_stmt.Skip s.Skip s.rolls-Skip, (h.1).1)
-    stmt_lawful (declaration k t u v a b x y m n o p) h = (at_variant (open_stmt.Decl x y) (s.Decl x y) (s.rolls-Decl x y), ended p ((h.1).1).1)
+    stmt_lawful (skip k t u a m n) h = (lawful_at open_stmt.Skip s.Skip s.rolls-Skip, (h.1).1)
+    stmt_lawful (declaration k t u v a b x y m n o p) h = (lawful_at (open_stmt.Decl x y) (s.Decl x y) (s.rolls-Decl x y), ended p ((h.1).1).1)
     stmt_lawful (declaration_call k t u v a b x f ys i m n o p) h = called (target.New x) f ys i b (call_lawful p ((h.1).1).1)
-    stmt_lawful (assignment k t u a b x y m n p) h = (at_variant (open_stmt.Assign x y) (s.Assign x y) (s.rolls-Assign x y), ended p (h.1).1)
+    stmt_lawful (assignment k t u a b x y m n p) h = (lawful_at (open_stmt.Assign x y) (s.Assign x y) (s.rolls-Assign x y), ended p (h.1).1)
     stmt_lawful (assignment_call k t u a b x f ys i m n p) h = called (target.Old x) f ys i b (call_lawful p (h.1).1)
-    stmt_lawful (shared_load k t u v a b x n y m o l p) h = (at_variant (open_stmt.SharedLoad n x y) (s.SharedLoad n x y) (s.rolls-SharedLoad n x y), ended p ((h.1).1).1)
+    stmt_lawful (shared_load k t u v a b x n y m o l p) h = (lawful_at (open_stmt.SharedLoad n x y) (s.SharedLoad n x y) (s.rolls-SharedLoad n x y), ended p ((h.1).1).1)
     stmt_lawful (call k a b f ys i p) h = called target.Nothing f ys i b (call_lawful p h)
-    stmt_lawful (store_words k t a b x y m p) h = (at_variant (open_stmt.StoreWords x y) (s.StoreWords x y) (s.rolls-StoreWords x y), two_ended p h.1)
-    stmt_lawful (store_byte k t a b x y m p) h = (at_variant (open_stmt.StoreByte x y) (s.StoreByte x y) (s.rolls-StoreByte x y), two_ended p h.1)
+    stmt_lawful (store_words k t a b x y m p) h = (lawful_at (open_stmt.StoreWords x y) (s.StoreWords x y) (s.rolls-StoreWords x y), two_ended p h.1)
+    stmt_lawful (store_byte k t a b x y m p) h = (lawful_at (open_stmt.StoreByte x y) (s.StoreByte x y) (s.rolls-StoreByte x y), two_ended p h.1)
     stmt_lawful (branch k t u a b c d x y z m p q n r) h =
         let first = block_lawful q (after p h.1) in
         let second = block_lawful r (first.1).1 in
         (lawful_if x y z ∙ and_from (lawful_block y) (lawful_block z) first.0 second.0, second.1)
     stmt_lawful (loop k t a b c x y m p q) h = let body = block_lawful q (after p h.1) in (lawful_while x y ∙ body.0, body.1)
-    stmt_lawful (break k t u a m n) h = (at_variant open_stmt.Break s.Break s.rolls-Break, (h.1).1)
-    stmt_lawful (continue k t u a m n) h = (at_variant open_stmt.Continue s.Continue s.rolls-Continue, (h.1).1)
-    stmt_lawful (return k t a b x m p) h = (at_variant (open_stmt.Return x) (s.Return x) (s.rolls-Return x), ended p h.1)
+    stmt_lawful (break k t u a m n) h = (lawful_at open_stmt.Break s.Break s.rolls-Break, (h.1).1)
+    stmt_lawful (continue k t u a m n) h = (lawful_at open_stmt.Continue s.Continue s.rolls-Continue, (h.1).1)
+    stmt_lawful (return k t a b x m p) h = (lawful_at (open_stmt.Return x) (s.Return x) (s.rolls-Return x), ended p h.1)
     stmt_lawful (tail_call k t u a b f xs m p n) h =
-        (at_variant (open_stmt.TailCall f xs) (s.TailCall f xs) (s.rolls-TailCall f xs), (after_plain May HasSpelling p h.1).1)
-    stmt_lawful (raise k t u a b x y m n p) h = (at_variant (open_stmt.Raise x y) (s.Raise x y) (s.rolls-Raise x y), ended p (h.1).1)
-    stmt_lawful (shared_store k t a b n x y m p) h = (at_variant (open_stmt.SharedStore n x y) (s.SharedStore n x y) (s.rolls-SharedStore n x y), two_ended p h.1)
+        (lawful_at (open_stmt.TailCall f xs) (s.TailCall f xs) (s.rolls-TailCall f xs), (after_plain May HasSpelling p h.1).1)
+    stmt_lawful (raise k t u a b x y m n p) h = (lawful_at (open_stmt.Raise x y) (s.Raise x y) (s.rolls-Raise x y), ended p (h.1).1)
+    stmt_lawful (shared_store k t a b n x y m p) h = (lawful_at (open_stmt.SharedStore n x y) (s.SharedStore n x y) (s.rolls-SharedStore n x y), two_ended p h.1)
     stmt_lawful (foreign k t u v w l n o a b c d f x p q r z m i p1 i1 p2 i2 p3 i3 p4 i4 i5) h =
         let fourth = after p3 (after p2 (after p1 (h.1).1).1).1 in
         (lawful_foreign x p q r z ∙ name_lawful x (subst IsSpelled m h.0), ((after p4 fourth.1).1).1)

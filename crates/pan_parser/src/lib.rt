@@ -12,10 +12,8 @@ mod parsing;
 mod shapes;
 mod simple;
 mod statements;
-#[cfg(test)]
-mod tests;
 mod text;
 
 pub use error::ParseError;
-pub use laws::one_tree;
+pub use laws::{one_answer, one_tree};
 pub use parsing::parse;

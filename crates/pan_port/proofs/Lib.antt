@@ -1,3 +1,4 @@
 pub mod LineFeeds
+pub mod ReplyLemmas
 pub mod Runs
 pub mod WriterLemmas

@@ -13,8 +13,8 @@ use Rattle.pan_base.specs.Trace.{trace_text, event_line}
 use Rattle.pan_base.proofs.TookLemmas.{Took-none, Took-more, TookFront-on}
 use Rattle.pan_port.specs.declared.asker.Advance.{Advance}
 use Rattle.pan_port.specs.Asker.{Meaning, Advances, IsAsking, IsOver, HasEnded, Starves}
-use Rattle.pan_port.specs.Device.{Gave}
-use Rattle.pan_port.specs.Drive.{Gives, Answered, replies_of, after, Closes, Drove, Did, Unwritten, Hungry, Gained, GaveUp, WasSilent, Unwrote, StoppedBy}
+use Rattle.pan_port.specs.Device.{Gives, Gave}
+use Rattle.pan_port.specs.Drive.{Answered, replies_of, after, Closes, Drove, Did, Unwritten, Hungry, Gained, GaveUp, WasSilent, Unwrote, StoppedBy}
 use Rattle.pan_port.proofs.LineFeeds.{feeds-append, line_feed}
 
 -- what was done so far, from the asker a and the device d to a' and d', with so many steps left of the budget

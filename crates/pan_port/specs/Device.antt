@@ -1,7 +1,7 @@
 -- What a device answers.
-use Rattle.std.specs.Prelude.{◌≡◌, ℕ, ◌≤◌, List, Bool, true, false}
-use Rattle.pan_base.specs.Causes.{Rose}
-use Rattle.pan_base.specs.Events.{Replied, Value, Done, Bytes, Stop}
+use Rattle.std.specs.Prelude.{◌≡◌, ℕ, ◌≤◌, List, Bool, true, false, if◌then◌else◌}
+use Rattle.pan_base.specs.Counts.{next_count}
+use Rattle.pan_base.specs.Events.{Asked, Replied, Value, Done, Bytes, Stop}
 use Rattle.pan_port.specs.declared.device.Answer.{Answer}
 use Rattle.pan_port.specs.declared.device.Answer.TheVariants as answer
 
@@ -24,13 +24,6 @@ given_by_array (answer.Value n) array = Gave (Value n)
 given_by_array answer.Stop array = Gave Stop
 given_by_array answer.Quiet array = Silent
 
--- the counts don't fall, and rise with each Stop and each Quiet
-pub record Counted (a : Answer) (stops stops' silences silences' : ℕ) : Type 0 where
-  pub stops_later : stops ≤ stops'
-  pub silences_later : silences ≤ silences'
-  pub stop : a ≡ answer.Stop → Rose stops stops'
-  pub quiet : a ≡ answer.Quiet → Rose silences silences'
-
 abbrev pub is_quiet : Answer → Bool
 is_quiet answer.Quiet = true
 is_quiet _ = false
@@ -38,3 +31,19 @@ is_quiet _ = false
 abbrev pub is_stop : Answer → Bool
 is_stop answer.Stop = true
 is_stop _ = false
+
+-- the counts don't fall, and each Stop and each Quiet is counted, and nothing else is
+pub record Counted (a : Answer) (stops stops' silences silences' : ℕ) : Type 0 where
+  pub stops_later : stops ≤ stops'
+  pub silences_later : silences ≤ silences'
+  pub each_stop : stops' ≡ (if is_stop a then next_count stops else stops)
+  pub each_silence : silences' ≡ (if is_quiet a then next_count silences else silences)
+
+-- what a device gives, from one state to another
+abbrev pub Gives : Type 0 → Type 1
+Gives D = D → Asked → Given → D → Type 0
+
+-- from both the device may give the same to each request, and come to the same
+pub record Alike {D : Type 0} (gives : Gives D) (a b : D) : Type 0 where
+  pub to : (q : Asked) (g : Given) (next : D) → gives a q g next → gives b q g next
+  pub from : (q : Asked) (g : Given) (next : D) → gives b q g next → gives a q g next

@@ -11,14 +11,10 @@ use Rattle.pan_base.specs.declared.events.End.TheVariants as told_end
 use Rattle.pan_base.specs.declared.events.Request.{Request}
 use Rattle.pan_base.specs.declared.events.Request.TheVariants as request
 use Rattle.pan_port.specs.Asker.{Meaning, IsAsking, Takes, Ends, Starves}
-use Rattle.pan_port.specs.Device.{Given, Gave, Silent, given, given_by_array}
+use Rattle.pan_port.specs.Device.{Given, Gave, Silent, Gives, given, given_by_array}
 use Rattle.pan_port.specs.declared.device.Answer.{Answer}
 use Rattle.pan_port.specs.declared.driving.Served.{Served}
 use Rattle.pan_port.specs.declared.driving.Served.TheVariants as served
-
--- what a device gives, from one state to another
-abbrev pub Gives : Type 0 → Type 1
-Gives D = D → Asked → Given → D → Type 0
 
 -- the replies of a trace
 abbrev pub replies_of : List Event → List Replied

@@ -33,3 +33,9 @@ abbrev pub next_given : Asked → Option OwnReply → Given
 next_given (Load size addr) r = access_given r
 next_given (Store size addr value) r = access_given r
 next_given (Foreign number name conf array) r = call_given r array
+
+-- the replies that are left, and how often Stop and Quiet were answered
+pub record ReplyListState : Type 0 where
+  pub left : List OwnReply
+  pub stops : ℕ
+  pub silences : ℕ

@@ -1,8 +1,7 @@
 //! Counts of a device's answers.
 
-ghost use Rattle.std.specs.Prelude.{◌≡◌, ℕ, List};
-ghost use Rattle.pan_port.specs.Counts.{counts_after};
-ghost use Rattle.pan_port.specs.Device.{Counted, given, given_by_array};
+ghost use Rattle.std.specs.Prelude.{◌≡◌};
+ghost use Rattle.pan_port.specs.Device.{Counted};
 
 use crate::device::Answer;
 
@@ -26,9 +25,7 @@ impl Counts {
 
     /// Counts an answer.
     pub fn count(&mut self, answer: Answer)
-        ensures given { self.new ≡ counts_after (given answer) self.old }
-        ensures by_array { (array : List ℕ) → self.new ≡ counts_after (given_by_array answer array) self.old }
-        ensures counted { Counted answer self.old.stops self.new.stops self.old.silences self.new.silences }
+        ensures { Counted answer self.old.stops self.new.stops self.old.silences self.new.silences }
     {
         match answer {
             Answer::Stop => self.stops = self.stops.saturating_add(1),

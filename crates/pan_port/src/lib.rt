@@ -11,6 +11,7 @@ mod stop_after;
 mod tests;
 
 pub use asker::{Advance, Asker, Pause};
+pub use counts::Counts;
 pub use device::{Answer, Device};
 pub use driving::{DriveFault, drive};
 pub use replies::{OwnReply, ReplyList};

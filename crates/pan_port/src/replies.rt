@@ -1,14 +1,13 @@
 //! A device that answers a list of replies.
 
-ghost use Rattle.std.specs.Prelude.{◌≡◌, ◌+◌, ℕ, List, length, min, option_copied};
-ghost use Rattle.pan_base.specs.Events.{Load, Foreign};
-ghost use Rattle.pan_port.specs.Counts.{counts_after};
+ghost use Rattle.std.specs.Prelude.{◌≡◌, drop, slice_get, option_copied};
 ghost use Rattle.pan_port.specs.Device.{Counted, given, given_by_array};
 ghost use Rattle.pan_port.specs.Replies.{access_given, call_given};
 
 use crate::counts::Counts;
 use crate::device::{Answer, Device};
 use pan_base::{Blob, List, Size};
+use std::marker::Model;
 
 /// A reply, with its bytes.
 #[derive(Debug, Drop)]
@@ -32,6 +31,21 @@ pub struct ReplyList {
     replies: List<OwnReply>,
     next: usize,
     counts: Counts,
+}
+
+impl Model for ReplyList {
+    ghost use Rattle.std.specs.Prelude.{◌≤◌, length, drop};
+    ghost use Rattle.pan_port.specs.Replies.{ReplyListState};
+
+    ghost Value = { ReplyListState };
+
+    ghost view = { λ s. record {
+      left = drop s.next s.replies;
+      stops = s.counts.stops;
+      silences = s.counts.silences;
+    } };
+
+    ghost invariant = { λ s. s.next ≤ length s.replies };
 }
 
 /// The answer to a load or a store.
@@ -70,10 +84,9 @@ fn write_over(array: &mut [u8], bytes: &[u8]) -> Answer
 }
 
 impl ReplyList {
-    /// Nothing answered yet.
+    /// All of the replies are left, and nothing was answered yet.
     pub fn new(replies: List<OwnReply>) -> ReplyList
-        ensures { (result.replies ≡ replies) × (result.next ≡ 0)
-            × (result.counts.stops ≡ 0) × (result.counts.silences ≡ 0) }
+        ensures { result ≡ record { left = replies; stops = 0; silences = 0 } }
     {
         ReplyList {
             replies,
@@ -82,15 +95,17 @@ impl ReplyList {
         }
     }
 
+    /// The next reply, if one is left.
+    fn first(&self) -> Option<&OwnReply>
+        ensures { option_copied result ≡ slice_get self.now.left 0 }
+    {
+        self.replies.get(self.next)
+    }
+
     /// Goes on to the next reply, and counts this answer.
     fn go_on(&mut self, answer: Answer)
-        ensures replies { self.new.replies ≡ self.old.replies }
-        ensures next { self.new.next ≡ min (self.old.next + 1) (length self.old.replies) }
-        ensures given { self.new.counts ≡ counts_after (given answer) self.old.counts }
-        ensures by_array { (array : List ℕ) →
-            self.new.counts ≡ counts_after (given_by_array answer array) self.old.counts }
-        ensures counted { Counted answer self.old.counts.stops self.new.counts.stops
-            self.old.counts.silences self.new.counts.silences }
+        ensures left { self.new.left ≡ drop 1 self.old.left }
+        ensures counted { Counted answer self.old.stops self.new.stops self.old.silences self.new.silences }
     {
         self.next = self.next.saturating_add(1).min(self.replies.len());
         self.counts.count(answer);
@@ -98,31 +113,29 @@ impl ReplyList {
 }
 
 impl Device for ReplyList {
-    ghost use Rattle.std.specs.Prelude.{◌≡◌, ◌+◌, length, min, slice_get};
-    ghost use Rattle.pan_port.specs.Counts.{counts_after};
+    ghost use Rattle.std.specs.Prelude.{◌≡◌, drop, slice_get};
     ghost use Rattle.pan_port.specs.Replies.{next_given};
 
-    ghost gives = { λ s q g t. (g ≡ next_given q (slice_get s.replies s.next)) × (t.replies ≡ s.replies)
-        × (t.next ≡ min (s.next + 1) (length s.replies)) × (t.counts ≡ counts_after g s.counts) };
+    ghost gives = { λ s q g t. (g ≡ next_given q (slice_get s.left 0)) × (t.left ≡ drop 1 s.left) };
 
-    ghost stops = { λ s. s.counts.stops };
+    ghost stops = { λ s. s.stops };
 
-    ghost silences = { λ s. s.counts.silences };
+    ghost silences = { λ s. s.silences };
 
     fn load(&mut self, _size: Size, _addr: u64) -> Answer {
-        let answer = access_answer(self.replies.get(self.next));
+        let answer = access_answer(self.first());
         self.go_on(answer);
         answer
     }
 
     fn store(&mut self, _size: Size, _addr: u64, _value: u64) -> Answer {
-        let answer = access_answer(self.replies.get(self.next));
+        let answer = access_answer(self.first());
         self.go_on(answer);
         answer
     }
 
     fn foreign(&mut self, _name: &[u8], _conf: &[u8], array: &mut [u8]) -> Answer {
-        let answer = call_answer(self.replies.get(self.next), array);
+        let answer = call_answer(self.first(), array);
         self.go_on(answer);
         answer
     }

@@ -1,12 +1,12 @@
 //! A device that stops after a while.
 
-ghost use Rattle.std.specs.Prelude.{◌≡◌, ◌-◌, ℕ, List, if◌then◌else◌};
-ghost use Rattle.pan_port.specs.Counts.{counts_after};
-ghost use Rattle.pan_port.specs.Device.{Counted, given, given_by_array, is_quiet};
+ghost use Rattle.std.specs.Prelude.{◌≡◌, ◌-◌, if◌then◌else◌};
+ghost use Rattle.pan_port.specs.Device.{Counted, is_quiet};
 
 use crate::counts::Counts;
 use crate::device::{Answer, Device};
 use pan_base::Size;
+use std::marker::Model;
 
 /// Passes requests on until the inner device has given so many answers other than `Quiet`, and answers `Stop` to each
 /// later one. It takes no memory.
@@ -17,11 +17,23 @@ pub struct StopAfter<D> {
     counts: Counts,
 }
 
+impl<D> Model for StopAfter<D> {
+    ghost use Rattle.pan_port.specs.StopAfter.{StopAfterState};
+
+    ghost Value = { StopAfterState D };
+
+    ghost view = { λ s. record {
+      inner = s.inner;
+      left = s.left;
+      stops = s.counts.stops;
+      silences = s.counts.silences;
+    } };
+}
+
 impl<D> StopAfter<D> {
     /// Stops after so many answers.
     pub fn new(inner: D, after: u64) -> StopAfter<D>
-        ensures { (result.inner ≡ inner) × (result.left ≡ after)
-            × (result.counts.stops ≡ 0) × (result.counts.silences ≡ 0) }
+        ensures { result ≡ record { inner = inner; left = after; stops = 0; silences = 0 } }
     {
         StopAfter {
             inner,
@@ -34,11 +46,7 @@ impl<D> StopAfter<D> {
     fn count(&mut self, answer: Answer)
         ensures inner { self.new.inner ≡ self.old.inner }
         ensures left { self.new.left ≡ (if is_quiet answer then self.old.left else self.old.left - 1) }
-        ensures given { self.new.counts ≡ counts_after (given answer) self.old.counts }
-        ensures by_array { (array : List ℕ) →
-            self.new.counts ≡ counts_after (given_by_array answer array) self.old.counts }
-        ensures counted { Counted answer self.old.counts.stops self.new.counts.stops
-            self.old.counts.silences self.new.counts.silences }
+        ensures counted { Counted answer self.old.stops self.new.stops self.old.silences self.new.silences }
     {
         if answer != Answer::Quiet {
             self.left = self.left.saturating_sub(1);
@@ -48,16 +56,13 @@ impl<D> StopAfter<D> {
 }
 
 impl<D: Device> Device for StopAfter<D> {
-    ghost use Rattle.std.specs.Prelude.{◌≡◌};
-    ghost use Rattle.pan_port.specs.Counts.{counts_after};
     ghost use Rattle.pan_port.specs.StopAfter.{PassesOn};
 
-    ghost gives = { λ s q g t. PassesOn D.gives s.left s.inner q g t.inner t.left
-        × (t.counts ≡ counts_after g s.counts) };
+    ghost gives = { λ s q g t. PassesOn D.gives s.left s.inner q g t.inner t.left };
 
-    ghost stops = { λ s. s.counts.stops };
+    ghost stops = { λ s. s.stops };
 
-    ghost silences = { λ s. s.counts.silences };
+    ghost silences = { λ s. s.silences };
 
     fn load(&mut self, size: Size, addr: u64) -> Answer {
         let answer = match self.left {

@@ -7,8 +7,8 @@ use Rattle.pan_base.specs.declared.events.End.TheVariants as told_end
 use Rattle.pan_port.specs.declared.asker.Pause.{Pause}
 use Rattle.pan_port.specs.declared.asker.Pause.TheVariants as pause
 use Rattle.pan_port.specs.Asker.{Meaning, Advances, HasEnded, IsOver, IsAsking, PausesAt}
-use Rattle.pan_runner.specs.Slots.{Variables}
-use Rattle.pan_runner.specs.declared.resolved.Program.{Program}
+use Rattle.source_resolver.specs.Slots.{Variables}
+use Rattle.source_resolver.specs.declared.resolved.Program.{Program}
 use Rattle.pan_runner.specs.declared.phase.Ending.{Ending as OwnEnding}
 use Rattle.pan_runner.specs.declared.phase.Ending.TheVariants as ending
 use Rattle.pan_runner.specs.declared.phase.Phase.{Phase}

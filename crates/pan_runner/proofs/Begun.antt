@@ -1,20 +1,20 @@
 -- What the first step of a statement comes to, from what its expressions gave.
 use Rattle.std.proofs.Common.{◌≡◌, ℕ, zero, suc, ◌++◌, List, [], ◌∷◌, length, Option, Some, None, Bool, true, false, refl, sym, ap, ◌∙◌}
-use Rattle.std.specs.Prelude.{option_map, unwrap_or, slice_get}
+use Rattle.std.specs.Prelude.{unwrap_or, slice_get}
 use Rattle.std.proofs.lemmas.List.{map-append}
 use Rattle.pan_base.specs.Events.{Fails}
 use Rattle.pan_runner.specs.Told.{told, all_told}
-use Rattle.pan_runner.specs.Slots.{Variables}
+use Rattle.source_resolver.specs.Slots.{Variables}
 use Rattle.pan_control.specs.Control.{if_not_zero}
 use Rattle.pan_runner.specs.Machine.{Frame, Block, Loop, Called, Next, Becomes, Enter, Leave, Config, Runs, Spends, Over, or_fails, unless_false}
 use Rattle.pan_runner.specs.View.{config_in, frame_of, statement_at}
 use Rattle.pan_runner.specs.Runner.{variables_of, frames_of, begins, leaves, KeepsAll}
 use Rattle.pan_runner.specs.declared.runner.Runner.{Runner}
-use Rattle.pan_runner.specs.declared.resolved.Expr.{Expr}
-use Rattle.pan_runner.specs.declared.resolved.Stmt.{Stmt}
-use Rattle.pan_runner.specs.declared.resolved.Stmt.TheVariants as stmt
-use Rattle.pan_runner.specs.declared.resolved.Target.{Target}
-use Rattle.pan_runner.specs.declared.resolved.HandlerOf.{HandlerOf}
+use Rattle.source_resolver.specs.declared.resolved.Expr.{Expr}
+use Rattle.source_resolver.specs.declared.resolved.Stmt.{Stmt}
+use Rattle.source_resolver.specs.declared.resolved.Stmt.TheVariants as stmt
+use Rattle.source_resolver.specs.declared.resolved.Target.{Target}
+use Rattle.source_resolver.specs.declared.resolved.HandlerOf.{HandlerOf}
 use Rattle.pan_runner.specs.declared.waiting.Waiting.TheVariants as waiting
 use Rattle.pan_runner.proofs.Equations.{begins_skip}
 use Rattle.pan_runner.specs.declared.phase.Phase.{Phase}
@@ -23,19 +23,12 @@ use Rattle.pan_runner.specs.declared.value.Value.{Value}
 
 -- ---- what follows
 
--- a word, and none
-pub word_some : {A : Type 0} (o x : Option A) (a : A) (next : A → Config) → x ≡ Some a → x ≡ o → or_fails o next ≡ next a
-word_some o x a next is e = ap (λ o. or_fails o next) (sym e ∙ is)
+-- a value, and none
+pub given : {A : Type 0} (o : Option A) (a : A) (next : A → Config) → o ≡ Some a → or_fails o next ≡ next a
+given o a next is = ap (λ o. or_fails o next) is
 
-pub word_none : {A : Type 0} (o x : Option A) (next : A → Config) → x ≡ None → x ≡ o → or_fails o next ≡ Over Fails
-word_none o x next is e = ap (λ o. or_fails o next) (sym e ∙ is)
-
--- what is seen of a value or of values, and none
-pub seen_some : {X A : Type 0} (f : X → A) (o : Option A) (x : Option X) (v : X) (next : A → Config) → x ≡ Some v → option_map f x ≡ o → or_fails o next ≡ next (f v)
-seen_some f o x v next is e = ap (λ o. or_fails o next) (sym e ∙ ap (option_map f) is)
-
-pub seen_none : {X A : Type 0} (f : X → A) (o : Option A) (x : Option X) (next : A → Config) → x ≡ None → option_map f x ≡ o → or_fails o next ≡ Over Fails
-seen_none f o x next is e = ap (λ o. or_fails o next) (sym e ∙ ap (option_map f) is)
+pub missing : {A : Type 0} (o : Option A) (next : A → Config) → o ≡ None → or_fails o next ≡ Over Fails
+missing o next none = ap (λ o. or_fails o next) none
 
 -- a test that holds, and one that fails
 pub where_so : (b : Bool) (next : Config) → b ≡ true → unless_false b next ≡ next

@@ -6,12 +6,12 @@ use Rattle.pan_base.specs.Events.{byte_count}
 use Rattle.pan_control.specs.Memory.{is_shared, with_byte, with_words}
 use Rattle.pan_control.specs.Control.{if_not_zero}
 use Rattle.pan_tree.specs.Value.{words_in}
-use Rattle.pan_runner.specs.Slots.{Variables, assigned, value, word, values}
-use Rattle.pan_runner.specs.declared.resolved.Expr.{Expr}
-use Rattle.pan_runner.specs.declared.resolved.Stmt.{Stmt, Stmt-F, out-Stmt}
-use Rattle.pan_runner.specs.declared.resolved.Stmt.TheVariants as s
-use Rattle.pan_runner.specs.declared.resolved.Stmt.TheOpen as stmt
-use Rattle.pan_runner.specs.declared.resolved.CallOf.{CallOf}
+use Rattle.source_resolver.specs.Slots.{Variables, assigned, value, word, values}
+use Rattle.source_resolver.specs.declared.resolved.Expr.{Expr}
+use Rattle.source_resolver.specs.declared.resolved.Stmt.{Stmt, Stmt-F, out-Stmt}
+use Rattle.source_resolver.specs.declared.resolved.Stmt.TheVariants as s
+use Rattle.source_resolver.specs.declared.resolved.Stmt.TheOpen as stmt
+use Rattle.source_resolver.specs.declared.resolved.CallOf.{CallOf}
 use Rattle.pan_runner.specs.Machine.{Next, Breaks, Continues, Returns, Raises, Becomes, Enter, Leave, Frame, Block, Loop, Called, Loading, Storing, Runs, Spends, Waits, or_fails, unless_false, ask_foreign, act, begin}
 use Rattle.pan_runner.specs.declared.runner.Runner.{Runner}
 use Rattle.pan_runner.specs.Runner.{names_of, variables_of, frames_of, begins}

@@ -4,7 +4,7 @@ use Rattle.std.specs.Prelude.{◌==◌, codes}
 use Rattle.std.specs.List.{list_all}
 use Rattle.std.specs.Str.{bytes_eq}
 use Rattle.std.proofs.lemmas.Bool.{and_parts, false≢true, eqb-true}
-use Rattle.pan_base.specs.Names.{is_word_byte, is_letter, is_spelled}
+use Rattle.pan_base.specs.Names.{is_word_byte, is_letter, is_spelled, is_foreign_name}
 use Rattle.pan_tree.specs.declared.rule.Rule.{Rule}
 use Rattle.pan_tree.specs.declared.rule.Rule.TheVariants.{NoReturn, NotWord, TooMany}
 use Rattle.pan_tree.specs.declared.spanned.Spanned.{Spanned}
@@ -16,22 +16,15 @@ use Rattle.pan_tree.specs.declared.syntax.StmtKind.{StmtKind, StmtKind-F, fold-r
 use Rattle.pan_tree.specs.declared.syntax.StmtKind.TheOpen as open_stmt
 use Rattle.pan_tree.specs.declared.program.Function.{Function}
 use Rattle.pan_tree.specs.declared.program.Program.{Program}
-use Rattle.pan_tree.specs.Check.{Scope, Context, State, Doing, Break, broken, doing, do_kind, do_layer, in_order, block, body, bodies, names_after, parameters, exception_heads, function_heads, function_of, main_breaks, weight_breaks, with_name, is_too_many, is_foreign_name, breaks_of, judged, has_no_word, closes, foreign_names, IsWellShaped}
+use Rattle.pan_tree.specs.Check.{Scope, Context, State, Doing, broken, doing, do_kind, do_layer, in_order, block, body, bodies, names_after, parameters, exception_heads, function_heads, function_of, main_breaks, weight_breaks, with_name, is_too_many, breaks_of, judged, has_no_word, closes, foreign_names, IsWellShaped}
 use Rattle.pan_runner.specs.View.{is_one_line}
 use Rattle.pan_runner.specs.Runner.{names_in}
-use Rattle.pan_runner.proofs.ResolvedStmts.{statement_induct}
+use Rattle.source_resolver.proofs.Mains.{no_front, no_back}
+use Rattle.source_resolver.proofs.ResolvedStmts.{statement_induct}
 
 do_roll : (x : StmtKind-F StmtKind) → do_kind (roll-StmtKind x) ≡ do_layer (map-StmtKind StmtKind Doing do_kind x)
 unfolding do_kind
 do_roll x = fold-roll-StmtKind Doing do_layer x
-
-no_front : (bs cs : List Break) → bs ++ cs ≡ [] → bs ≡ []
-no_front [] cs e = refl
-no_front (b ∷ bs) cs e = absurd cc
-
-no_back : (bs cs : List Break) → bs ++ cs ≡ [] → cs ≡ []
-no_back [] cs e = e
-no_back (b ∷ bs) cs e = absurd cc
 
 one_holds : (place : ℕ) (rule : Rule) (b : Bool) (rules : List (Rule × Bool)) → broken place ((rule, b) ∷ rules) ≡ [] → b ≡ false
 one_holds place rule true rules e = absurd cc
@@ -146,12 +139,6 @@ bodies_clean p shaped =
 
 pub few_names : (p : Program) → IsWellShaped p → length (foreign_names p) ≤ 1024
 few_names p shaped = let few = names_few p p.functions [] (bodies_clean p shaped) refl in grind (arith, few)
-
-pub main_clean : (p : Program) → IsWellShaped p → main_breaks (function_of (codes "main") p) ≡ []
-main_clean p shaped =
-    let heads = exception_heads [] p.exceptions ++ function_heads [] p.functions in
-    let main = main_breaks (function_of (codes "main") p) in
-    no_back heads main (no_front (heads ++ main) (bodies p p.functions []) (no_front (heads ++ main ++ bodies p p.functions []) (weight_breaks p) shaped))
 
 -- ---- line feeds
 

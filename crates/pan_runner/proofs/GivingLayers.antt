@@ -11,11 +11,11 @@ use Rattle.pan_control.specs.Memory.{byte_at}
 use Rattle.pan_tree.specs.declared.shape.Shape.{Shape}
 use Rattle.pan_tree.specs.Value.{Value as Meant, Word, Struct, values_of, part_of_part}
 use Rattle.pan_tree.specs.Meaning.{as_word, all_given, shifted}
-use Rattle.pan_runner.specs.declared.resolved.Expr.{Expr, Expr-F, fold-roll-Expr, roll-Expr, map-Expr}
-use Rattle.pan_runner.specs.declared.resolved.Expr.TheOpen as open_expr
-use Rattle.pan_runner.specs.declared.resolved.Expr.TheVariants as e
-use Rattle.pan_runner.specs.Slots.{Variables, Giving, variable, chain, value_layer, value, word, values}
-use Rattle.pan_runner.specs.Evaluating.{term, loaded, compared}
+use Rattle.source_resolver.specs.declared.resolved.Expr.{Expr, Expr-F, fold-roll-Expr, roll-Expr, map-Expr}
+use Rattle.source_resolver.specs.declared.resolved.Expr.TheOpen as open_expr
+use Rattle.source_resolver.specs.declared.resolved.Expr.TheVariants as e
+use Rattle.source_resolver.specs.Slots.{Variables, Giving, variable, chain, value_layer, value, word, values}
+use Rattle.pan_runner.specs.Evaluating.{term, loaded}
 
 roll : (x : Expr-F Expr) (u : Variables) (m : List ℕ) → value (roll-Expr x) u m ≡ value_layer (map-Expr Expr Giving value x) u m
 unfolding value
@@ -29,6 +29,10 @@ given_word (Some n) = refl
 made_word : (f : ℕ → ℕ) (o : Option ℕ) → option_map (λ n. Word (f n)) o ≡ option_map (λ n. Word n) (option_map f o)
 made_word f None = refl
 made_word f (Some n) = refl
+
+-- the word that a comparison of two words gives
+abbrev pub compared : Cmp → Option ℕ → Option ℕ → Option ℕ
+compared c a b = option_and_then (λ x. option_map (λ y. truth c x y) b) a
 
 compared_word : (c : Cmp) (a b : Option ℕ) → option_and_then (λ x. option_map (λ y. Word (truth c x y)) b) a ≡ option_map (λ n. Word n) (compared c a b)
 compared_word c None b = refl
@@ -161,3 +165,9 @@ module _ (u : Variables) (m : List ℕ) where
       ap (λ ps. chain (Some a) (map term ps) u m) (drop_more rest i p within ∙ ap (λ q. q ∷ drop (i + 1) rest) (sym is))
       ∙ ap (λ o. chain (option_map (operate p.0 a) o) (map term (drop (i + 1) rest)) u m) none
       ∙ chain_none (map term (drop (i + 1) rest)) u m
+
+  -- nor are there all values where one is missing
+  pub all_stopped : (vs : List Meant) (es : List Expr) (i : ℕ) (x : Expr) → i < length es → x ≡ get_or es i x → value x u m ≡ None → behind vs (values (drop i es) u m) ≡ None
+  all_stopped vs es i x within is none =
+      ap (λ es. behind vs (values es u m)) (drop_more es i x within ∙ ap (λ q. q ∷ drop (i + 1) es) (sym is))
+      ∙ ap (λ o. behind vs (all_given (o ∷ map (λ e. value e u m) (drop (i + 1) es)))) none

@@ -6,13 +6,13 @@ use Rattle.pan_base.specs.Events.{Fails}
 use Rattle.pan_control.specs.Memory.{is_shared, bytes_at, with_byte, with_words}
 use Rattle.pan_control.specs.Control.{if_not_zero}
 use Rattle.pan_tree.specs.Value.{Value, words_in}
-use Rattle.pan_runner.specs.Slots.{Variables, into_nothing, value, word, values}
-use Rattle.pan_runner.specs.declared.resolved.Stmt.{Stmt, Stmt-F, out-Stmt, roll-Stmt, map-Stmt, fold-roll-Stmt, roll-out-Stmt}
-use Rattle.pan_runner.specs.declared.resolved.Stmt.TheOpen as stmt
-use Rattle.pan_runner.specs.declared.resolved.Target.{Target}
-use Rattle.pan_runner.specs.declared.resolved.HandlerOf.{HandlerOf}
-use Rattle.pan_runner.specs.declared.resolved.Function.{Function}
-use Rattle.pan_runner.specs.declared.resolved.Program.{Program}
+use Rattle.source_resolver.specs.Slots.{Variables, into_nothing, value, word, values}
+use Rattle.source_resolver.specs.declared.resolved.Stmt.{Stmt, Stmt-F, out-Stmt, roll-Stmt, map-Stmt, fold-roll-Stmt, roll-out-Stmt}
+use Rattle.source_resolver.specs.declared.resolved.Stmt.TheOpen as stmt
+use Rattle.source_resolver.specs.declared.resolved.Target.{Target}
+use Rattle.source_resolver.specs.declared.resolved.HandlerOf.{HandlerOf}
+use Rattle.source_resolver.specs.declared.resolved.Function.{Function}
+use Rattle.source_resolver.specs.declared.resolved.Program.{Program}
 use Rattle.pan_runner.specs.Machine.{Way, Next, Breaks, Continues, Returns, Raises, Becomes, Doing, Enter, Leave, Frame, Block, Loop, Called, Config, Runs, Spends, Over, or_fails, unless_false, ask_foreign, act, begin, enter, catch, leave_frame, leave_main, leave, step}
 use Rattle.pan_runner.specs.Weight.{total, weight_layer, weight, row_weight, frame_weight, frames_weight, body_weight, config_weight, running_weight}
 

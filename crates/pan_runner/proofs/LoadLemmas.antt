@@ -22,23 +22,18 @@ none_given : (o : Option (List ℕ)) (s : Shape) → ((ns : List ℕ) → word_o
 none_given None s none = refl
 none_given (Some ns) s none = none ns
 
-no_word : (s : Shape) (m : List ℕ) (addr : Option ℕ) → ((ns : List ℕ) → word_of (filled s ns) ≡ None) → as_word (loaded s m addr) ≡ None
-no_word s m None none = refl
-no_word s m (Some a) none = none_given (words_at m a (words_of s)) s none
+pub loaded_words : (n : ℕ) (m : List ℕ) (a : ℕ) → as_word (loaded (shape.Words n) m (Some a)) ≡ None
+loaded_words n m a = none_given (words_at m a (words_of (shape.Words n))) (shape.Words n) (λ ns. ap (λ p. word_of p.0) (filling_words n ns))
 
-pub loaded_words : (n : ℕ) (m : List ℕ) (addr : Option ℕ) → as_word (loaded (shape.Words n) m addr) ≡ None
-loaded_words n m addr = no_word (shape.Words n) m addr (λ ns. ap (λ p. word_of p.0) (filling_words n ns))
-
-pub loaded_group : (shapes : List Shape) (m : List ℕ) (addr : Option ℕ) → as_word (loaded (shape.Group shapes) m addr) ≡ None
-loaded_group shapes m addr = no_word (shape.Group shapes) m addr (λ ns. ap (λ p. word_of p.0) (filling_group shapes ns))
+pub loaded_group : (shapes : List Shape) (m : List ℕ) (a : ℕ) → as_word (loaded (shape.Group shapes) m (Some a)) ≡ None
+loaded_group shapes m a = none_given (words_at m a (words_of (shape.Group shapes))) (shape.Group shapes) (λ ns. ap (λ p. word_of p.0) (filling_group shapes ns))
 
 first_word : (o : Option ℕ) → as_word (option_map (filled shape.Word) (option_and_then (λ a. option_map (λ others. a ∷ others) (Some [])) o)) ≡ o
 first_word None = refl
 first_word (Some n) = ap (λ p. word_of p.0) (filling_word (n ∷ []))
 
-pub loaded_word : (m : List ℕ) (addr : Option ℕ) → as_word (loaded shape.Word m addr) ≡ option_and_then (word_at m) addr
-loaded_word m None = refl
-loaded_word m (Some a) = ap (λ n. as_word (option_map (filled shape.Word) (words_at m a n))) words_word ∙ first_word (word_at m a)
+pub loaded_word : (m : List ℕ) (a : ℕ) → as_word (loaded shape.Word m (Some a)) ≡ word_at m a
+loaded_word m a = ap (λ n. as_word (option_map (filled shape.Word) (words_at m a n))) words_word ∙ first_word (word_at m a)
 
 pub ruleset load_rules = (loaded_word, loaded_words, loaded_group)
 
@@ -81,12 +76,12 @@ words_capped m addr n k word is =
 
 -- ---- as the code finds them
 
-module _ (s : Shape) (m : List ℕ) (addr : Option ℕ) (a k : ℕ) (is : addr ≡ Some a) (word : a < 2 ^ 64) (count : k ≡ min (words_of s) (2 ^ 64 - 1)) where
-  as_counted : option_map (filled s) (words_at m a k) ≡ loaded s m addr
-  as_counted = ap (option_map (filled s)) (words_capped m a (words_of s) k word count) ∙ sym (ap (loaded s m) is)
+module _ (s : Shape) (m : List ℕ) (a k : ℕ) (word : a < 2 ^ 64) (count : k ≡ min (words_of s) (2 ^ 64 - 1)) where
+  as_counted : loaded s m (Some a) ≡ option_map (filled s) (words_at m a k)
+  as_counted = ap (option_map (filled s)) (sym (words_capped m a (words_of s) k word count))
 
-  pub loaded_some : (ns : List ℕ) (v : Meant) → words_at m a k ≡ Some ns → v ≡ filled s ns → Some v ≡ loaded s m addr
-  loaded_some ns v here fills = ap Some fills ∙ sym (ap (option_map (filled s)) here) ∙ as_counted
+  pub loaded_some : (ns : List ℕ) (v : Meant) → words_at m a k ≡ Some ns → v ≡ filled s ns → loaded s m (Some a) ≡ Some v
+  loaded_some ns v here fills = as_counted ∙ ap (option_map (filled s)) here ∙ ap Some (sym fills)
 
-  pub loaded_none : words_at m a k ≡ None → None ≡ loaded s m addr
-  loaded_none none = sym (ap (option_map (filled s)) none) ∙ as_counted
+  pub loaded_none : words_at m a k ≡ None → loaded s m (Some a) ≡ None
+  loaded_none none = as_counted ∙ ap (option_map (filled s)) none

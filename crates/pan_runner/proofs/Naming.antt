@@ -5,8 +5,9 @@ use Rattle.std.specs.Prelude.{slice_get, IsTrue, ◌&&◌}
 use Rattle.std.proofs.lemmas.Option.{slice_get_past}
 use Rattle.pan_base.specs.Events.{Fails}
 use Rattle.pan_base.specs.Words.{base_address}
+use Rattle.pan_base.specs.Names.{is_foreign_name}
 use Rattle.pan_control.specs.Memory.{bytes_at}
-use Rattle.pan_tree.specs.Check.{foreign_names, is_foreign_name, IsWellShaped}
+use Rattle.pan_tree.specs.Check.{foreign_names, IsWellShaped}
 use Rattle.pan_tree.specs.declared.program.Program.{Program as Source}
 use Rattle.pan_runner.specs.Machine.{Config, Waits, Calling, Over, or_fails, ask_foreign}
 use Rattle.pan_runner.specs.Runner.{names_of, variables_of, frames_of}

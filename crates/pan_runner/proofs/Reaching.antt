@@ -6,13 +6,13 @@ use Rattle.std.specs.Option.{option_map_or}
 use Rattle.pan_control.specs.Memory.{is_shared, bytes_at, with_byte, with_words}
 use Rattle.pan_control.specs.Control.{if_not_zero}
 use Rattle.pan_tree.specs.Value.{Value, words_in}
-use Rattle.pan_runner.specs.Slots.{Variables, into_nothing, value, word, values}
-use Rattle.pan_runner.specs.declared.resolved.Stmt.{Stmt, Stmt-F, out-Stmt, map-Stmt}
-use Rattle.pan_runner.specs.declared.resolved.Stmt.TheOpen as stmt
-use Rattle.pan_runner.specs.declared.resolved.Target.{Target}
-use Rattle.pan_runner.specs.declared.resolved.HandlerOf.{HandlerOf}
-use Rattle.pan_runner.specs.declared.resolved.Function.{Function}
-use Rattle.pan_runner.specs.declared.resolved.Program.{Program}
+use Rattle.source_resolver.specs.Slots.{Variables, into_nothing, value, word, values}
+use Rattle.source_resolver.specs.declared.resolved.Stmt.{Stmt, Stmt-F, out-Stmt, map-Stmt}
+use Rattle.source_resolver.specs.declared.resolved.Stmt.TheOpen as stmt
+use Rattle.source_resolver.specs.declared.resolved.Target.{Target}
+use Rattle.source_resolver.specs.declared.resolved.HandlerOf.{HandlerOf}
+use Rattle.source_resolver.specs.declared.resolved.Function.{Function}
+use Rattle.source_resolver.specs.declared.resolved.Program.{Program}
 use Rattle.pan_runner.specs.Machine.{Way, Next, Breaks, Continues, Returns, Raises, Becomes, Doing, Enter, Leave, Frame, Block, Loop, Called, Pending, Config, Runs, Spends, Waits, Over, or_fails, unless_false, ask_foreign, act, begin, enter, catch, leave_frame, leave_main, leave, step}
 use Rattle.pan_runner.specs.Weight.{weight, row_weight, frame_weight, frames_weight, config_weight, running_weight}
 use Rattle.pan_runner.specs.Ahead.{size_layer, size, row_size, frames_size, bodies_size, reach, ahead}
@@ -90,7 +90,7 @@ module _ (names : List (List ℕ)) (p : Program) (u : Variables) (ks : List Fram
   foreign_fine n i conf conf_len array array_len =
       given n (slice_get names i) _ (λ name. given n (bytes_at m conf conf_len) _ (λ c. given n (bytes_at m array array_len) _ (λ a. asks_fine n _)))
 
-  call_size : (t : Target) (f : Option ℕ) (args : List Rattle.pan_runner.specs.declared.resolved.Expr.Expr) (h : Option (HandlerOf (List Stmt))) → size_layer (map-Stmt Stmt ℕ size (stmt.Call (record { into = t; function = f; args = args; handler = h }))) ≡ handled h + 2
+  call_size : (t : Target) (f : Option ℕ) (args : List Rattle.source_resolver.specs.declared.resolved.Expr.Expr) (h : Option (HandlerOf (List Stmt))) → size_layer (map-Stmt Stmt ℕ size (stmt.Call (record { into = t; function = f; args = args; handler = h }))) ≡ handled h + 2
   call_size t f args None = refl
   call_size t f args (Some h) = let e = total_size h.body in omega arith
 

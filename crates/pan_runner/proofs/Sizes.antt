@@ -1,9 +1,9 @@
 -- Sizes of statements, blocks and functions' bodies.
 use Rattle.std.proofs.Common.{◌≡◌, ℕ, zero, suc, ◌+◌, ◌≤◌, List, [], ◌∷◌, map, Option, Some, None, refl, sym, ap, ◌∙◌, arith}
 use Rattle.std.specs.Prelude.{slice_get}
-use Rattle.pan_runner.specs.declared.resolved.Stmt.{Stmt, Stmt-F, out-Stmt, roll-Stmt, map-Stmt, fold-roll-Stmt, roll-out-Stmt}
-use Rattle.pan_runner.specs.declared.resolved.Stmt.TheOpen as stmt
-use Rattle.pan_runner.specs.declared.resolved.Function.{Function}
+use Rattle.source_resolver.specs.declared.resolved.Stmt.{Stmt, Stmt-F, out-Stmt, roll-Stmt, map-Stmt, fold-roll-Stmt, roll-out-Stmt}
+use Rattle.source_resolver.specs.declared.resolved.Stmt.TheOpen as stmt
+use Rattle.source_resolver.specs.declared.resolved.Function.{Function}
 use Rattle.pan_runner.specs.Weight.{total, weight_layer, weight, row_weight, body_weight}
 use Rattle.pan_runner.specs.Ahead.{size_layer, size, row_size, bodies_size}
 use Rattle.pan_runner.proofs.StmtLayers.{stmt_induct}

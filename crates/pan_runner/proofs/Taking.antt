@@ -3,8 +3,8 @@ use Rattle.std.proofs.Common.{◌≡◌, ℕ, refl, sym, ap, ◌∙◌, subst, L
 use Rattle.std.specs.Prelude.{IsTrue}
 use Rattle.pan_base.specs.Events.{Asked, Replied, Fits, fits, Stopped}
 use Rattle.pan_port.specs.Asker.{Meaning, Answers, Takes, Ends}
-use Rattle.pan_runner.specs.Slots.{Variables}
-use Rattle.pan_runner.specs.declared.resolved.Program.{Program}
+use Rattle.source_resolver.specs.Slots.{Variables}
+use Rattle.source_resolver.specs.declared.resolved.Program.{Program}
 use Rattle.pan_runner.specs.declared.phase.Phase.TheVariants as phase
 use Rattle.pan_runner.specs.declared.questions.Question.{Question}
 use Rattle.pan_runner.specs.declared.runner.Runner.{Runner}

@@ -4,14 +4,14 @@ use Rattle.std.specs.Prelude.{nat_eq, if◌then◌else◌, slice_get, ◌%◌}
 use Rattle.std.specs.Option.{option_map_or}
 use Rattle.pan_control.specs.Memory.{is_shared, bytes_at, with_byte, with_words}
 use Rattle.pan_control.specs.Control.{if_not_zero}
+use Rattle.pan_control.specs.Runs.{exit_of}
 use Rattle.pan_tree.specs.Value.{Value, word_of, words_in}
-use Rattle.pan_tree.specs.Meaning.{exit_of}
-use Rattle.pan_runner.specs.Slots.{Variables, into_nothing, value, word, values}
-use Rattle.pan_runner.specs.declared.resolved.Stmt.{Stmt, Stmt-F, out-Stmt}
-use Rattle.pan_runner.specs.declared.resolved.Stmt.TheOpen as stmt
-use Rattle.pan_runner.specs.declared.resolved.HandlerOf.{HandlerOf}
-use Rattle.pan_runner.specs.declared.resolved.Function.{Function}
-use Rattle.pan_runner.specs.declared.resolved.Program.{Program}
+use Rattle.source_resolver.specs.Slots.{Variables, into_nothing, value, word, values}
+use Rattle.source_resolver.specs.declared.resolved.Stmt.{Stmt, Stmt-F, out-Stmt}
+use Rattle.source_resolver.specs.declared.resolved.Stmt.TheOpen as stmt
+use Rattle.source_resolver.specs.declared.resolved.HandlerOf.{HandlerOf}
+use Rattle.source_resolver.specs.declared.resolved.Function.{Function}
+use Rattle.source_resolver.specs.declared.resolved.Program.{Program}
 use Rattle.pan_runner.specs.Machine.{Way, Next, Breaks, Continues, Returns, Raises, Becomes, Doing, Enter, Leave, Frame, Block, Loop, Called, Config, Runs, Spends, Waits, Over, or_fails, unless_false, ask_foreign, act, begin, enter, catch, leave_frame, leave_main, leave, step}
 use Rattle.pan_runner.specs.View.{stepped, is_running, is_spending, fed, IsUnstopped}
 use Rattle.pan_runner.proofs.Lighter.{either, unless}

@@ -1,10 +1,10 @@
 -- A bound on the events that are still possible within so many units of fuel.
 use Rattle.std.specs.Prelude.{ℕ, zero, suc, ◌+◌, ◌*◌, max, List, [], ◌∷◌, Option, Some, None}
-use Rattle.pan_runner.specs.declared.resolved.Stmt.{Stmt, Stmt-F, fold-Stmt}
-use Rattle.pan_runner.specs.declared.resolved.Stmt.TheOpen as stmt
-use Rattle.pan_runner.specs.declared.resolved.HandlerOf.{HandlerOf}
-use Rattle.pan_runner.specs.declared.resolved.Function.{Function}
-use Rattle.pan_runner.specs.declared.resolved.Program.{Program}
+use Rattle.source_resolver.specs.declared.resolved.Stmt.{Stmt, Stmt-F, fold-Stmt}
+use Rattle.source_resolver.specs.declared.resolved.Stmt.TheOpen as stmt
+use Rattle.source_resolver.specs.declared.resolved.HandlerOf.{HandlerOf}
+use Rattle.source_resolver.specs.declared.resolved.Function.{Function}
+use Rattle.source_resolver.specs.declared.resolved.Program.{Program}
 use Rattle.pan_runner.specs.Machine.{Frame, Block, Loop, Called, Config, Runs, Spends, Waits, Over}
 use Rattle.pan_runner.specs.Weight.{total, running_weight, config_weight}
 

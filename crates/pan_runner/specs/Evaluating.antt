@@ -1,14 +1,12 @@
 -- The parts of what an expression gives.
 use Rattle.std.specs.Prelude.{ℕ, List, Option, option_map, option_and_then}
 use Rattle.pan_base.specs.declared.operators.BinOp.{BinOp}
-use Rattle.pan_base.specs.declared.operators.Cmp.{Cmp}
-use Rattle.pan_base.specs.Words.{truth}
 use Rattle.pan_control.specs.Memory.{words_at}
 use Rattle.pan_tree.specs.declared.shape.Shape.{Shape}
 use Rattle.pan_tree.specs.Shapes.{words_of, filled}
 use Rattle.pan_tree.specs.Value.{Value}
-use Rattle.pan_runner.specs.declared.resolved.Expr.{Expr}
-use Rattle.pan_runner.specs.Slots.{Giving, value}
+use Rattle.source_resolver.specs.declared.resolved.Expr.{Expr}
+use Rattle.source_resolver.specs.Slots.{Giving, value}
 
 -- a term of a chain, with what its expression gives
 abbrev pub term : BinOp × Expr → BinOp × Giving
@@ -17,7 +15,3 @@ term p = (p.0, value p.1)
 -- what local memory has from an address on, as a value of the shape
 abbrev pub loaded : Shape → List ℕ → Option ℕ → Option Value
 loaded s m addr = option_and_then (λ a. option_map (filled s) (words_at m a (words_of s))) addr
-
--- the word that a comparison of two words gives
-abbrev pub compared : Cmp → Option ℕ → Option ℕ → Option ℕ
-compared c a b = option_and_then (λ x. option_map (λ y. truth c x y) b) a

@@ -1,12 +1,9 @@
-pub mod formers
-pub mod Numbering
-pub mod Resolving
 pub mod Told
 pub mod Stored
-pub mod Slots
 pub mod Evaluating
 pub mod Unbounded
 pub mod Machine
+pub mod Halting
 pub mod Going
 pub mod Weight
 pub mod Ahead

@@ -5,15 +5,15 @@ use Rattle.pan_base.specs.declared.events.Size.{Size}
 use Rattle.pan_base.specs.Events.{Asked, Load, Store, Foreign, Replied, Ending, Uncaught, Fails, Stopped, byte_count, fits}
 use Rattle.pan_control.specs.Memory.{is_shared, bytes_at, with_byte, with_words}
 use Rattle.pan_control.specs.Control.{if_not_zero}
+use Rattle.pan_control.specs.Runs.{exit_of, number, with_reply}
 use Rattle.pan_tree.specs.Value.{Value, Word, word_of, words_in}
-use Rattle.pan_tree.specs.Meaning.{exit_of, number, with_reply}
-use Rattle.pan_runner.specs.Slots.{Variables, assigned, into, into_nothing, value, word, values}
-use Rattle.pan_runner.specs.declared.resolved.Stmt.{Stmt, Stmt-F, out-Stmt}
-use Rattle.pan_runner.specs.declared.resolved.Stmt.TheOpen as stmt
-use Rattle.pan_runner.specs.declared.resolved.Target.{Target}
-use Rattle.pan_runner.specs.declared.resolved.HandlerOf.{HandlerOf}
-use Rattle.pan_runner.specs.declared.resolved.Function.{Function}
-use Rattle.pan_runner.specs.declared.resolved.Program.{Program}
+use Rattle.source_resolver.specs.Slots.{Variables, assigned, into, into_nothing, value, word, values}
+use Rattle.source_resolver.specs.declared.resolved.Stmt.{Stmt, Stmt-F, out-Stmt}
+use Rattle.source_resolver.specs.declared.resolved.Stmt.TheOpen as stmt
+use Rattle.source_resolver.specs.declared.resolved.Target.{Target}
+use Rattle.source_resolver.specs.declared.resolved.HandlerOf.{HandlerOf}
+use Rattle.source_resolver.specs.declared.resolved.Function.{Function}
+use Rattle.source_resolver.specs.declared.resolved.Program.{Program}
 
 -- How a statement is left: it has ended normally, by a break, by a continue, with a value that the function returns, with an exception, or with
 -- the call of a function that takes the place of the running one.

@@ -4,10 +4,10 @@ use Rattle.pan_base.specs.Events.{Replied}
 use Rattle.pan_port.specs.Asker.{Meaning}
 use Rattle.pan_tree.specs.declared.program.Program.{Program as Source}
 use Rattle.pan_tree.specs.Check.{foreign_names}
-use Rattle.pan_runner.specs.Slots.{Variables}
+use Rattle.source_resolver.specs.Slots.{Variables}
 use Rattle.pan_runner.specs.Told.{all_told}
-use Rattle.pan_runner.specs.declared.resolved.Stmt.{Stmt}
-use Rattle.pan_runner.specs.declared.resolved.Program.{Program}
+use Rattle.source_resolver.specs.declared.resolved.Stmt.{Stmt}
+use Rattle.source_resolver.specs.declared.resolved.Program.{Program}
 use Rattle.pan_runner.specs.declared.runner.Runner.{Runner}
 use Rattle.pan_runner.specs.Machine.{Frame, Config, begin, leave}
 use Rattle.pan_runner.specs.Machine as machine

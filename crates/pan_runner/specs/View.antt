@@ -6,12 +6,12 @@ use Rattle.pan_base.specs.Words.{base_address}
 use Rattle.pan_base.specs.declared.events.End.TheVariants as told_end
 use Rattle.pan_port.specs.declared.asker.Pause.{Pause}
 use Rattle.pan_port.specs.declared.asker.Pause.TheVariants as pause
-use Rattle.pan_runner.specs.Slots.{Variables}
+use Rattle.source_resolver.specs.Slots.{Variables}
 use Rattle.pan_runner.specs.Told.{told, all_told}
 use Rattle.pan_runner.specs.Machine.{Next, Breaks, Continues, Returns, Raises, Becomes, Enter, Leave, Frame, Block, Loop, Called, Pending, Loading, Storing, Calling, Config, Runs, Spends, Waits, Over, request_of, step}
-use Rattle.pan_runner.specs.declared.resolved.Stmt.{Stmt}
-use Rattle.pan_runner.specs.declared.resolved.Stmt.TheVariants as stmt
-use Rattle.pan_runner.specs.declared.resolved.Program.{Program}
+use Rattle.source_resolver.specs.declared.resolved.Stmt.{Stmt}
+use Rattle.source_resolver.specs.declared.resolved.Stmt.TheVariants as stmt
+use Rattle.source_resolver.specs.declared.resolved.Program.{Program}
 use Rattle.pan_runner.specs.declared.waiting.Waiting.{Waiting}
 use Rattle.pan_runner.specs.declared.waiting.Waiting.TheVariants as waiting
 use Rattle.pan_runner.specs.declared.questions.Buffer.{Buffer}

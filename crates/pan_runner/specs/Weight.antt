@@ -1,9 +1,9 @@
 -- How many steps at most are made until a unit of fuel is spent, a reply is awaited, or the run ends.
 use Rattle.std.specs.Prelude.{ℕ, ◌+◌, List, [], ◌∷◌, Option, Some, None, slice_get}
-use Rattle.pan_runner.specs.declared.resolved.Stmt.{Stmt, Stmt-F, fold-Stmt}
-use Rattle.pan_runner.specs.declared.resolved.Stmt.TheOpen as stmt
-use Rattle.pan_runner.specs.declared.resolved.Function.{Function}
-use Rattle.pan_runner.specs.declared.resolved.Program.{Program}
+use Rattle.source_resolver.specs.declared.resolved.Stmt.{Stmt, Stmt-F, fold-Stmt}
+use Rattle.source_resolver.specs.declared.resolved.Stmt.TheOpen as stmt
+use Rattle.source_resolver.specs.declared.resolved.Function.{Function}
+use Rattle.source_resolver.specs.declared.resolved.Program.{Program}
 use Rattle.pan_runner.specs.Machine.{Way, Becomes, Doing, Enter, Leave, Frame, Block, Loop, Called, Config, Runs, Spends, Waits, Over}
 
 -- a sum of weights, and one for each

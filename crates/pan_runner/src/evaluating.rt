@@ -1,22 +1,23 @@
 //! What expressions give.
 
-ghost use Rattle.std.specs.Prelude.{◌≡◌, ◌≤◌, map, Some, option_map, option_and_then, IfOk};
+ghost use Rattle.std.specs.Prelude.{◌≡◌, ◌≤◌, map, Some, option_map};
 ghost use Rattle.std.specs.Option.{option_copied};
-ghost use Rattle.pan_base.specs.Words.{shift, negate};
-ghost use Rattle.pan_control.specs.Memory.{byte_at};
-ghost use Rattle.pan_tree.specs.Value.{Word, Struct, values_of, part_of_part};
+ghost use Rattle.pan_base.specs.Words.{shift, negate, truth};
+ghost use Rattle.pan_tree.specs.Value.{part_of_part};
 ghost use Rattle.pan_tree.specs.Meaning as meaning;
 ghost use Rattle.pan_runner.specs.Told.{told, all_told};
-ghost use Rattle.pan_runner.specs.Slots as slots;
-ghost use Rattle.pan_runner.specs.Slots.{value, word, values};
-ghost use Rattle.pan_runner.specs.Evaluating.{term, loaded, compared};
+ghost use Rattle.source_resolver.specs.Slots as slots;
+ghost use Rattle.source_resolver.specs.Slots.{value, word, values};
+ghost use Rattle.pan_runner.specs.Evaluating.{term, loaded};
+ghost use Rattle.pan_runner.specs.Halting.{Gives};
 
+use crate::halt::Halt;
 use crate::memory::{load_byte, load_word, load_words};
-use crate::resolved::Expr;
 use crate::value::Value;
 use crate::values::{as_word, copy, filled, part_at};
-use pan_base::{BinOp, Cmp, List, NoMemory, ShOp};
+use pan_base::{BinOp, Cmp, List, ShOp};
 use pan_tree::{Shape, count_words};
+use source_resolver::Expr;
 use std::alloc::Global;
 
 /// What is left of a word that is shifted by all of its bits or more.
@@ -43,35 +44,28 @@ pub fn shifted(op: ShOp, word: u64, amount: u64) -> u64
 }
 
 /// The word shifted by each of the amounts, one after another.
-fn shifted_by_each(word: Option<u64>, amounts: &[(ShOp, u64)]) -> Option<u64>
-    ensures { result ≡ option_map (meaning.shifted amounts.now) word }
+fn shifted_by_each(word: u64, amounts: &[(ShOp, u64)]) -> u64
+    ensures { result ≡ meaning.shifted amounts.now word }
 {
-    let mut word = word?;
+    let mut word = word;
     for (op, amount) in amounts {
         word = shifted(*op, word, *amount);
     }
-    Some(word)
+    word
 }
 
 /// The word with the other sign.
-fn negated(word: Option<u64>) -> Option<u64>
-    ensures { result ≡ option_map negate word }
+fn negated(word: u64) -> u64
+    ensures { result ≡ negate word }
 {
-    Some(word?.wrapping_neg())
+    word.wrapping_neg()
 }
 
 /// 1 where the comparison holds of the words, else 0.
-fn compared(cmp: Cmp, left: Option<u64>, right: Option<u64>) -> Option<u64>
-    ensures { result ≡ compared cmp left right }
+fn compared(cmp: Cmp, left: u64, right: u64) -> u64
+    ensures { result ≡ truth cmp left right }
 {
-    Some(u64::from(cmp.holds(left?, right?)))
-}
-
-/// The byte at an address.
-fn loaded_byte(memory: &[u8], addr: Option<u64>) -> Option<u64>
-    ensures { result ≡ option_and_then (byte_at memory.now) addr }
-{
-    load_byte(memory, addr?)
+    u64::from(cmp.holds(left, right))
 }
 
 /// The variable at this place.
@@ -88,14 +82,6 @@ fn word_in(value: Option<&Value>) -> Option<u64>
     as_word(value?)
 }
 
-/// A value that is this word.
-#[tactic(auto, using(crate::proofs::ToldLayers::told_rules))]
-fn word_value(word: Option<u64>) -> Option<Value>
-    ensures { option_map told result ≡ option_map Word word }
-{
-    Some(Value::Word(word?))
-}
-
 /// A part of a variable.
 #[tactic(auto, using(crate::proofs::ToldLayers::part_rules))]
 fn part_of_variable<'v>(
@@ -108,68 +94,52 @@ fn part_of_variable<'v>(
     part_at(variable(variables, place)?, path)
 }
 
-/// A struct of these parts.
-#[tactic(auto, using(crate::proofs::ToldLayers::told_rules))]
-fn struct_of(parts: Option<List<Value>>) -> Option<Value>
-    ensures { option_map told result ≡ option_map (λ vs. Struct (values_of vs)) (option_map all_told parts) }
-{
-    Some(Value::Struct(parts?))
-}
-
-/// A copy of the value.
-fn copied(alloc: Global, value: Option<&Value>) -> Result<Option<Value>, NoMemory>
-    ensures { IfOk result (λ o. option_map told o ≡ option_map told (option_copied value.entry)) }
+/// A copy of the value, which fails where there is none.
+fn copied(alloc: Global, value: Option<&Value>) -> Result<Value, Halt>
+    ensures { Gives told result (option_map told (option_copied value.entry)) }
 {
     match value {
-        Some(value) => Ok(Some(copy(alloc, value)?)),
-        None => Ok(None),
+        Some(value) => Ok(copy(alloc, value)?),
+        None => Err(Halt::Fails),
     }
 }
 
 /// The word that local memory has at an address, if the shape is that of a word.
 #[tactic(auto, using(crate::proofs::LoadLemmas::load_rules))]
-fn loaded_word(shape: &Shape, memory: &[u8], addr: Option<u64>) -> Option<u64>
-    ensures { result ≡ meaning.as_word (loaded shape.now memory.now addr) }
+fn loaded_word(shape: &Shape, memory: &[u8], addr: u64) -> Option<u64>
+    ensures { result ≡ meaning.as_word (loaded shape.now memory.now (Some addr)) }
 {
     match shape {
-        Shape::Word => load_word(memory, addr?),
+        Shape::Word => load_word(memory, addr),
         Shape::Words(_) | Shape::Group(_) => None,
     }
 }
 
 /// What local memory has from an address on, read as a value of the shape.
-fn loaded(
-    alloc: Global,
-    shape: &Shape,
-    memory: &[u8],
-    addr: Option<u64>,
-) -> Result<Option<Value>, NoMemory>
-    ensures { IfOk result (λ o. option_map told o ≡ loaded shape.now memory.now addr) }
+fn loaded(alloc: Global, shape: &Shape, memory: &[u8], addr: u64) -> Result<Value, Halt>
+    ensures { Gives told result (loaded shape.now memory.now (Some addr)) }
 {
-    let Some(addr) = addr else {
-        return Ok(None);
-    };
     match load_words(alloc, memory, addr, count_words(shape))? {
-        Some(words) => Ok(Some(filled(alloc, shape, words.as_slice())?)),
-        None => Ok(None),
+        Some(words) => Ok(filled(alloc, shape, words.as_slice())?),
+        None => Err(Halt::Fails),
     }
 }
 
-/// What the expression gives with these variables and this local memory. None: it fails.
+/// What the expression gives with these variables and this local memory.
 #[cycle(evaluate)]
 pub fn evaluate(
     alloc: Global,
     expr: &Expr,
     variables: &[Value],
     memory: &[u8],
-) -> Result<Option<Value>, NoMemory>
-    ensures { IfOk result (λ o. option_map told o ≡ value expr.now (all_told variables.now) memory.now) }
+) -> Result<Value, Halt>
+    ensures { Gives told result (value expr.now (all_told variables.now) memory.now) }
 {
     match expr {
         Expr::Variable(place) => copied(alloc, variable(variables, *place)),
         Expr::Struct(parts) => {
             let parts = evaluate_all(alloc, parts.as_slice(), variables, memory)?;
-            Ok(struct_of(parts))
+            Ok(Value::Struct(parts))
         }
         Expr::Field(of, path) => {
             evaluate_field(alloc, of.get(), path.as_slice(), variables, memory)
@@ -185,40 +155,37 @@ pub fn evaluate(
         | Expr::Shift(_, _)
         | Expr::Compare(_, _, _) => {
             let word = evaluate_word(alloc, expr, variables, memory)?;
-            Ok(word_value(word))
+            Ok(Value::Word(word))
         }
     }
 }
 
-/// The word that the expression gives. None: it fails, or gives a struct.
+/// The word that the expression gives. A struct is none.
 #[cycle(evaluate)]
 pub fn evaluate_word(
     alloc: Global,
     expr: &Expr,
     variables: &[Value],
     memory: &[u8],
-) -> Result<Option<u64>, NoMemory>
-    ensures { IfOk result (λ o. o ≡ word expr.now (all_told variables.now) memory.now) }
+) -> Result<u64, Halt>
+    ensures { Gives (λ n. n) result (word expr.now (all_told variables.now) memory.now) }
 {
     match expr {
-        Expr::Number(word) => Ok(Some(*word)),
-        Expr::Variable(place) => Ok(word_in(variable(variables, *place))),
-        Expr::Struct(_) => Ok(None),
+        Expr::Number(word) => Ok(*word),
+        Expr::Variable(place) => word_in(variable(variables, *place)).ok_or(Halt::Fails),
+        Expr::Struct(_) => Err(Halt::Fails),
         Expr::Field(of, path) => {
             evaluate_field_word(alloc, of.get(), path.as_slice(), variables, memory)
         }
         Expr::Load(shape, addr) => {
             let addr = evaluate_word(alloc, addr.get(), variables, memory)?;
-            Ok(loaded_word(shape, memory, addr))
+            loaded_word(shape, memory, addr).ok_or(Halt::Fails)
         }
         Expr::LoadByte(addr) => {
             let addr = evaluate_word(alloc, addr.get(), variables, memory)?;
-            Ok(loaded_byte(memory, addr))
+            load_byte(memory, addr).ok_or(Halt::Fails)
         }
-        Expr::Neg(of) => {
-            let word = evaluate_word(alloc, of.get(), variables, memory)?;
-            Ok(negated(word))
-        }
+        Expr::Neg(of) => Ok(negated(evaluate_word(alloc, of.get(), variables, memory)?)),
         Expr::Chain(first, rest) => {
             let first = evaluate_word(alloc, first.get(), variables, memory)?;
             evaluate_chain(alloc, first, rest.as_slice(), variables, memory)
@@ -243,16 +210,14 @@ fn evaluate_field(
     path: &[u64],
     variables: &[Value],
     memory: &[u8],
-) -> Result<Option<Value>, NoMemory>
-    ensures { IfOk result (λ o. option_map told o ≡ part_of_part (value of.now (all_told variables.now) memory.now) path.now) }
+) -> Result<Value, Halt>
+    ensures { Gives told result (part_of_part (value of.now (all_told variables.now) memory.now) path.now) }
 {
     if let Expr::Variable(place) = of {
         return copied(alloc, part_of_variable(variables, *place, path));
     }
-    match evaluate(alloc, of, variables, memory)? {
-        Some(value) => copied(alloc, part_at(&value, path)),
-        None => Ok(None),
-    }
+    let value = evaluate(alloc, of, variables, memory)?;
+    copied(alloc, part_at(&value, path))
 }
 
 /// The word that is a part of what the expression gives. Nothing of a variable is copied.
@@ -263,57 +228,49 @@ fn evaluate_field_word(
     path: &[u64],
     variables: &[Value],
     memory: &[u8],
-) -> Result<Option<u64>, NoMemory>
-    ensures { IfOk result (λ o. o ≡ meaning.as_word (part_of_part (value of.now (all_told variables.now) memory.now) path.now)) }
+) -> Result<u64, Halt>
+    ensures { Gives (λ n. n) result (meaning.as_word (part_of_part (value of.now (all_told variables.now) memory.now) path.now)) }
 {
     if let Expr::Variable(place) = of {
-        return Ok(word_in(part_of_variable(variables, *place, path)));
+        return word_in(part_of_variable(variables, *place, path)).ok_or(Halt::Fails);
     }
-    match evaluate(alloc, of, variables, memory)? {
-        Some(value) => Ok(word_in(part_at(&value, path))),
-        None => Ok(None),
-    }
+    let value = evaluate(alloc, of, variables, memory)?;
+    word_in(part_at(&value, path)).ok_or(Halt::Fails)
 }
 
 /// The word that a chain gives, from its first word and the terms behind it.
 #[cycle(evaluate)]
 fn evaluate_chain(
     alloc: Global,
-    first: Option<u64>,
+    first: u64,
     rest: &[(BinOp, Expr)],
     variables: &[Value],
     memory: &[u8],
-) -> Result<Option<u64>, NoMemory>
-    ensures { IfOk result (λ o. o ≡ slots.chain first (map term rest.now) (all_told variables.now) memory.now) }
+) -> Result<u64, Halt>
+    ensures { Gives (λ n. n) result (slots.chain (Some first) (map term rest.now) (all_told variables.now) memory.now) }
 {
-    let Some(mut word) = first else {
-        return Ok(None);
-    };
+    let mut word = first;
     for (op, term) in rest {
-        match evaluate_word(alloc, term, variables, memory)? {
-            Some(right) => word = op.apply(word, right),
-            None => return Ok(None),
-        }
+        let right = evaluate_word(alloc, term, variables, memory)?;
+        word = op.apply(word, right);
     }
-    Ok(Some(word))
+    Ok(word)
 }
 
-/// What the expressions give, in their order. None: one of them fails.
+/// What the expressions give, in their order.
 #[cycle(evaluate)]
 pub fn evaluate_all(
     alloc: Global,
     exprs: &[Expr],
     variables: &[Value],
     memory: &[u8],
-) -> Result<Option<List<Value>>, NoMemory>
-    ensures { IfOk result (λ o. option_map all_told o ≡ values exprs.now (all_told variables.now) memory.now) }
+) -> Result<List<Value>, Halt>
+    ensures { Gives all_told result (values exprs.now (all_told variables.now) memory.now) }
 {
     let mut all = List::new(alloc);
     for expr in exprs {
-        match evaluate(alloc, expr, variables, memory)? {
-            Some(value) => all.push(value)?,
-            None => return Ok(None),
-        }
+        let value = evaluate(alloc, expr, variables, memory)?;
+        all.push(value)?;
     }
-    Ok(Some(all))
+    Ok(all)
 }

@@ -1,16 +1,18 @@
 //! How statements and functions are left and entered.
 
-ghost use Rattle.std.specs.Prelude.{◌≡◌, Some, IfOk, slice_get, drop, nat_eq, false};
+ghost use Rattle.std.specs.Prelude.{◌≡◌, slice_get, drop, nat_eq, false};
 ghost use Rattle.std.specs.Option.{option_map_or};
+ghost use Rattle.pan_runner.specs.Halting.{Comes};
 
+use crate::halt::Halt;
 use crate::phase::{Ending, Phase};
-use crate::resolved::{Block, Handler};
 use crate::runner::Runner;
 use crate::value::Value;
 use crate::values::as_word;
 use crate::variables::{give, give_nothing, keep_first};
 use crate::waiting::Waiting;
-use pan_base::{List, NoMemory};
+use pan_base::List;
+use source_resolver::{Block, Handler};
 
 /// Whether a handler catches an exception.
 fn catches(handler: &Handler, exception: usize) -> bool
@@ -23,7 +25,7 @@ fn catches(handler: &Handler, exception: usize) -> bool
 }
 
 impl Ending {
-    ghost use Rattle.pan_tree.specs.Meaning.{exit_of};
+    ghost use Rattle.pan_control.specs.Runs.{exit_of};
     ghost use Rattle.pan_tree.specs.Value.{word_of};
     ghost use Rattle.pan_runner.specs.Told.{told};
     ghost use Rattle.pan_runner.specs.View.{ending_of};
@@ -48,18 +50,14 @@ impl<'a> Runner<'a> {
     ghost use Rattle.pan_runner.specs.Runner.{config_of, variables_of, frames_of, names_of, begins, leaves, Keeps};
 
     /// Enters a function.
-    pub(crate) fn enter(&mut self, function: usize, args: List<Value>) -> Result<(), NoMemory>
+    pub(crate) fn enter(&mut self, function: usize, args: List<Value>) -> Result<(), Halt>
         requires { self.old.phase ≡ phase.Next }
-        ensures config { IfOk result (λ _. config_of self.new ≡ enter (slice_get self.old.program.functions function) (all_told args) (frames_of self.old) self.old.memory) }
+        ensures config { Comes result (config_of self.new) (enter (slice_get self.old.program.functions function) (all_told args) (frames_of self.old) self.old.memory) }
         ensures keeps { Keeps self.old self.new }
     {
-        let Some(function) = self.program.functions.get(function) else {
-            self.fail();
-            return Ok(());
-        };
+        let function = self.program.functions.get(function).ok_or(Halt::Fails)?;
         if args.len() != function.params {
-            self.fail();
-            return Ok(());
+            return Err(Halt::Fails);
         }
         let block = function.body.share()?;
         self.push(Waiting::Block {
@@ -72,9 +70,9 @@ impl<'a> Runner<'a> {
     }
 
     /// Goes on in a block.
-    fn go_on(&mut self, block: &Block, next: usize, keep: usize) -> Result<(), NoMemory>
+    fn go_on(&mut self, block: &Block, next: usize, keep: usize) -> Result<(), Halt>
         requires { self.old.phase ≡ phase.Next }
-        ensures config { IfOk result (λ _. config_of self.new ≡ leave_frame (names_of self.old) (machine.Next (variables_of self.old)) (machine.Block keep (drop next block.now)) (frames_of self.old) self.old.memory) }
+        ensures config { Comes result (config_of self.new) (leave_frame (names_of self.old) (machine.Next (variables_of self.old)) (machine.Block keep (drop next block.now)) (frames_of self.old) self.old.memory) }
         ensures keeps { Keeps self.old self.new }
     {
         let statements = block.get().as_slice();
@@ -88,97 +86,75 @@ impl<'a> Runner<'a> {
             next: next + 1,
             keep,
         })?;
-        self.begin(&statements[next], block, next)?;
-        Ok(())
+        self.begin(&statements[next], block, next)
     }
 
     /// Begins a loop again, the statement at an index of a block.
-    fn go_round(&mut self, block: &Block, at: usize) -> Result<(), NoMemory>
+    fn go_round(&mut self, block: &Block, at: usize) -> Result<(), Halt>
         requires { self.old.phase ≡ phase.Next }
-        ensures config { IfOk result (λ _. config_of self.new ≡ begins self.old (statement_at block.now at)) }
+        ensures config { Comes result (config_of self.new) (begins self.old (statement_at block.now at)) }
         ensures keeps { Keeps self.old self.new }
     {
         let Some(statement) = block.get().get(at) else {
             return Ok(());
         };
-        self.begin(statement, block, at)?;
-        Ok(())
+        self.begin(statement, block, at)
     }
 
     /// A statement has ended normally.
-    pub(crate) fn next(&mut self) -> Result<(), NoMemory>
+    pub(crate) fn next(&mut self) -> Result<(), Halt>
         requires { self.old.phase ≡ phase.Next }
-        ensures config { IfOk result (λ _. config_of self.new ≡ leaves self.old (machine.Next (variables_of self.old))) }
+        ensures config { Comes result (config_of self.new) (leaves self.old (machine.Next (variables_of self.old))) }
         ensures keeps { Keeps self.old self.new }
     {
         match self.pop() {
-            None => {
-                self.fail();
-                Ok(())
-            }
-            Some(Waiting::Block { block, next, keep }) => {
-                self.go_on(&block, next, keep)?;
-                Ok(())
-            }
-            Some(Waiting::Loop { block, at }) => {
-                self.go_round(&block, at)?;
-                Ok(())
-            }
-            Some(Waiting::Called { .. }) => {
-                self.fail();
-                Ok(())
-            }
+            None => Err(Halt::Fails),
+            Some(Waiting::Block { block, next, keep }) => { self.go_on(&block, next, keep) }
+            Some(Waiting::Loop { block, at }) => self.go_round(&block, at),
+            Some(Waiting::Called { .. }) => Err(Halt::Fails),
         }
     }
 
     /// A loop is left.
-    pub(crate) fn break_loop(&mut self)
+    pub(crate) fn break_loop(&mut self) -> Result<(), Halt>
         requires { self.old.phase ≡ phase.Next }
-        ensures config { config_of self.new ≡ leaves self.old (machine.Breaks (variables_of self.old)) }
+        ensures config { Comes result (config_of self.new) (leaves self.old (machine.Breaks (variables_of self.old))) }
         ensures keeps { Keeps self.old self.new }
     {
         match self.pop() {
-            None => self.fail(),
+            None => Err(Halt::Fails),
             Some(Waiting::Block { keep, .. }) => {
                 keep_first(&mut self.variables, keep);
                 self.phase = Phase::Break;
+                Ok(())
             }
-            Some(Waiting::Loop { .. }) => {}
-            Some(Waiting::Called { .. }) => self.fail(),
+            Some(Waiting::Loop { .. }) => Ok(()),
+            Some(Waiting::Called { .. }) => Err(Halt::Fails),
         }
     }
 
     /// A loop goes on with its next turn.
-    pub(crate) fn continue_loop(&mut self) -> Result<(), NoMemory>
+    pub(crate) fn continue_loop(&mut self) -> Result<(), Halt>
         requires { self.old.phase ≡ phase.Next }
-        ensures config { IfOk result (λ _. config_of self.new ≡ leaves self.old (machine.Continues (variables_of self.old))) }
+        ensures config { Comes result (config_of self.new) (leaves self.old (machine.Continues (variables_of self.old))) }
         ensures keeps { Keeps self.old self.new }
     {
         match self.pop() {
-            None => {
-                self.fail();
-                Ok(())
-            }
+            None => Err(Halt::Fails),
             Some(Waiting::Block { keep, .. }) => {
                 keep_first(&mut self.variables, keep);
                 self.phase = Phase::Continue;
                 Ok(())
             }
-            Some(Waiting::Loop { block, at }) => {
-                self.go_round(&block, at)?;
-                Ok(())
-            }
-            Some(Waiting::Called { .. }) => {
-                self.fail();
-                Ok(())
-            }
+            Some(Waiting::Loop { block, at }) => self.go_round(&block, at),
+            Some(Waiting::Called { .. }) => Err(Halt::Fails),
         }
     }
 
     /// A function returns a value.
-    pub(crate) fn give_back(&mut self, value: Value) -> Result<(), NoMemory>
+    pub(crate) fn give_back(&mut self, value: Value) -> Result<(), Halt>
         requires { self.old.phase ≡ phase.Next }
-        ensures config { IfOk result (λ _. config_of self.new ≡ leaves self.old (machine.Returns (told value))) }
+        ensures config { Comes result (config_of self.new) (leaves self.old (machine.Returns (told value))) }
         ensures keeps { Keeps self.old self.new }
     {
         match self.pop() {
@@ -214,9 +190,9 @@ impl<'a> Runner<'a> {
         handler: Option<Handler>,
         exception: usize,
         value: Value,
-    ) -> Result<(), NoMemory>
+    ) -> Result<(), Halt>
         requires { self.old.phase ≡ phase.Next }
-        ensures config { IfOk result (λ _. config_of self.new ≡ catch handler (variables_of self.old) exception (told value) (frames_of self.old) self.old.memory) }
+        ensures config { Comes result (config_of self.new) (catch handler (variables_of self.old) exception (told value) (frames_of self.old) self.old.memory) }
         ensures keeps { Keeps self.old self.new }
     {
         let Some(handler) = handler else {
@@ -233,9 +209,9 @@ impl<'a> Runner<'a> {
     }
 
     /// An exception leaves a statement.
-    pub(crate) fn raise(&mut self, exception: usize, value: Value) -> Result<(), NoMemory>
+    pub(crate) fn raise(&mut self, exception: usize, value: Value) -> Result<(), Halt>
         requires { self.old.phase ≡ phase.Next }
-        ensures config { IfOk result (λ _. config_of self.new ≡ leaves self.old (machine.Raises exception (told value))) }
+        ensures config { Comes result (config_of self.new) (leaves self.old (machine.Raises exception (told value))) }
         ensures keeps { Keeps self.old self.new }
     {
         match self.pop() {
@@ -260,16 +236,15 @@ impl<'a> Runner<'a> {
             ) => {
                 self.variables = variables;
                 give_nothing(self.alloc, &mut self.variables, &target)?;
-                self.catch(handler, exception, value)?;
-                Ok(())
+                self.catch(handler, exception, value)
             }
         }
     }
 
     /// A function takes the place of the running one.
-    pub(crate) fn replace(&mut self, function: usize, args: List<Value>) -> Result<(), NoMemory>
+    pub(crate) fn replace(&mut self, function: usize, args: List<Value>) -> Result<(), Halt>
         requires { self.old.phase ≡ phase.Next }
-        ensures config { IfOk result (λ _. config_of self.new ≡ leaves self.old (machine.Becomes function (all_told args))) }
+        ensures config { Comes result (config_of self.new) (leaves self.old (machine.Becomes function (all_told args))) }
         ensures keeps { Keeps self.old self.new }
     {
         match self.pop() {

@@ -1,19 +1,20 @@
 //! A runner of a program: it goes on over a stack of what waits, until it has no fuel, asks, or is over.
 
-ghost use Rattle.std.specs.Prelude.{◌≡◌, ◌∷◌, [], ℕ, List, length, IsTrue, IfOk, IfSome, IfNone, MatchOption, option_map};
-ghost use Rattle.pan_runner.specs.Slots.{Variables};
+ghost use Rattle.std.specs.Prelude.{◌≡◌, ◌∷◌, [], ℕ, List, length, IsTrue, IfOk, IfSome, IfNone, MatchOption};
+ghost use Rattle.source_resolver.specs.Slots.{Variables};
 ghost use Rattle.pan_runner.specs.Machine.{or_fails, Runs, Enter};
 ghost use Rattle.pan_runner.specs.View.{is_sound, config_in};
+ghost use Rattle.pan_runner.specs.Halting.{Gives, Comes};
 
 use crate::evaluating::{evaluate, evaluate_all, evaluate_word};
+use crate::halt::Halt;
 use crate::local_memory::LocalMemory;
 use crate::phase::{Ending, Phase};
-use crate::resolved::{Block, Expr, Program};
-use crate::resolving::resolve;
 use crate::value::Value;
 use crate::waiting::Waiting;
 use pan_base::{List, NoMemory};
 use pan_shapes::Checked;
+use source_resolver::{Block, Expr, Program, resolve};
 use std::alloc::Global;
 use std::mem;
 
@@ -45,8 +46,7 @@ pub struct Runner<'a> {
 impl<'a> Runner<'a> {
     ghost use Rattle.pan_tree.specs.Shapes.{zero_of};
     ghost use Rattle.pan_runner.specs.Told.{told, all_told};
-    ghost use Rattle.pan_runner.specs.Slots.{value, word, values};
-    ghost use Rattle.pan_base.specs.Events.{Fails};
+    ghost use Rattle.source_resolver.specs.Slots.{value, word, values};
     ghost use Rattle.pan_runner.specs.Machine as machine;
     ghost use Rattle.pan_runner.specs.View.{frame_of, stepped, is_running, is_spending, fed};
     ghost use Rattle.pan_runner.specs.declared.phase.Phase.TheVariants as phase;
@@ -64,8 +64,6 @@ impl<'a> Runner<'a> {
         ensures fed { IfOk result (λ r. (meaning_of r).starved ≡ false) }
     {
         let program = resolve(alloc, checked)?;
-        // the program's shapes are known with it
-        let _source = checked.program();
         let memory = LocalMemory::new(alloc, memory)?;
         let phase = first_phase(alloc, program.main);
         Ok(Runner {
@@ -81,42 +79,39 @@ impl<'a> Runner<'a> {
     }
 
     /// What an expression gives here.
-    pub(crate) fn value_of(&self, expr: &Expr) -> Result<Option<Value>, NoMemory>
-        ensures { IfOk result (λ o. option_map told o ≡ value expr.now (variables_of self.now) self.now.memory) }
+    pub(crate) fn value_of(&self, expr: &Expr) -> Result<Value, Halt>
+        ensures { Gives told result (value expr.now (variables_of self.now) self.now.memory) }
     {
-        let given = evaluate(
+        evaluate(
             self.alloc,
             expr,
             self.variables.as_slice(),
             self.memory.as_slice(),
-        )?;
-        Ok(given)
+        )
     }
 
     /// The word that an expression gives here.
-    pub(crate) fn word_of(&self, expr: &Expr) -> Result<Option<u64>, NoMemory>
-        ensures { IfOk result (λ o. o ≡ word expr.now (variables_of self.now) self.now.memory) }
+    pub(crate) fn word_of(&self, expr: &Expr) -> Result<u64, Halt>
+        ensures { Gives (λ n. n) result (word expr.now (variables_of self.now) self.now.memory) }
     {
-        let given = evaluate_word(
+        evaluate_word(
             self.alloc,
             expr,
             self.variables.as_slice(),
             self.memory.as_slice(),
-        )?;
-        Ok(given)
+        )
     }
 
     /// What expressions give here.
-    pub(crate) fn values_of(&self, exprs: &[Expr]) -> Result<Option<List<Value>>, NoMemory>
-        ensures { IfOk result (λ o. option_map all_told o ≡ values exprs.now (variables_of self.now) self.now.memory) }
+    pub(crate) fn values_of(&self, exprs: &[Expr]) -> Result<List<Value>, Halt>
+        ensures { Gives all_told result (values exprs.now (variables_of self.now) self.now.memory) }
     {
-        let given = evaluate_all(
+        evaluate_all(
             self.alloc,
             exprs,
             self.variables.as_slice(),
             self.memory.as_slice(),
-        )?;
-        Ok(given)
+        )
     }
 
     /// Puts a frame on the stack.
@@ -152,30 +147,53 @@ impl<'a> Runner<'a> {
         Ok(())
     }
 
-    /// A step has failed.
-    pub(crate) fn fail(&mut self)
-        ensures config { config_of self.new ≡ machine.Over Fails }
+    /// Does what the phase says, where it runs. Kept apart from the steps of most statements, whose frame is small without it.
+    #[inline(never)]
+    fn follow_phase(&mut self) -> Result<(), Halt>
+        ensures config { Comes result (config_of self.new) (stepped (names_of self.old) self.old.program (config_of self.old)) }
         ensures keeps { Keeps self.old self.new }
     {
-        self.phase = Phase::Ended(Ending::Fails);
+        match mem::replace(&mut self.phase, Phase::Next) {
+            Phase::Enter(function, args) => self.enter(function, args),
+            Phase::Next => self.next(),
+            Phase::Break => self.break_loop(),
+            Phase::Continue => self.continue_loop(),
+            Phase::Return(value) => self.give_back(value),
+            Phase::Raise(exception, value) => self.raise(exception, value),
+            Phase::Become(function, args) => self.replace(function, args),
+            other => {
+                self.phase = other;
+                Ok(())
+            }
+        }
     }
 
-    /// One step, where it runs.
+    /// Takes a step, where it runs.
+    fn take_step(&mut self) -> Result<(), Halt>
+        ensures config { Comes result (config_of self.new) (stepped (names_of self.old) self.old.program (config_of self.old)) }
+        ensures keeps { Keeps self.old self.new }
+    {
+        // the phase of most steps, from which nothing is to be taken
+        if let Phase::Next = self.phase {
+            self.next()
+        } else {
+            self.follow_phase()
+        }
+    }
+
+    /// One step, where it runs. A step that fails ends the run.
     pub(crate) fn step(&mut self) -> Result<(), NoMemory>
         ensures config { IfOk result (λ _. config_of self.new ≡ stepped (names_of self.old) self.old.program (config_of self.old)) }
         ensures keeps { Keeps self.old self.new }
     {
-        match mem::replace(&mut self.phase, Phase::Next) {
-            Phase::Enter(function, args) => self.enter(function, args)?,
-            Phase::Next => self.next()?,
-            Phase::Break => self.break_loop(),
-            Phase::Continue => self.continue_loop()?,
-            Phase::Return(value) => self.give_back(value)?,
-            Phase::Raise(exception, value) => self.raise(exception, value)?,
-            Phase::Become(function, args) => self.replace(function, args)?,
-            other => self.phase = other,
+        match self.take_step() {
+            Ok(()) => Ok(()),
+            Err(Halt::Fails) => {
+                self.phase = Phase::Ended(Ending::Fails);
+                Ok(())
+            }
+            Err(Halt::NoMemory) => Err(NoMemory),
         }
-        Ok(())
     }
 
     /// Whether it runs.

@@ -1,33 +1,30 @@
 //! The first step of each kind of statement.
 
-ghost use Rattle.std.specs.Prelude.{◌≡◌, Some, IfOk, slice_get};
+ghost use Rattle.std.specs.Prelude.{◌≡◌, Some, slice_get};
+ghost use Rattle.pan_runner.specs.Halting.{Comes};
 
+use crate::halt::Halt;
 use crate::phase::Phase;
-use crate::questions::{Question, is_shared, low_bytes};
-use crate::resolved::{Block, Call, Expr, Stmt};
+use crate::questions::{Question, is_shared};
 use crate::runner::Runner;
 use crate::variables::assign;
 use crate::waiting::{Waiting, copy_target, share_handler};
-use pan_base::{List, NoMemory, Size};
+use pan_base::{List, Size};
+use source_resolver::{Block, Call, Expr, Stmt};
 use std::mem;
 
 impl<'a> Runner<'a> {
     ghost use Rattle.pan_runner.specs.Machine.{ask_foreign};
     ghost use Rattle.pan_runner.specs.declared.phase.Phase.TheVariants as phase;
     ghost use Rattle.pan_runner.specs.Runner.{config_of, variables_of, frames_of, names_of, begins, Keeps};
-    ghost use Rattle.pan_runner.specs.declared.resolved.Stmt.TheVariants as stmt;
+    ghost use Rattle.source_resolver.specs.declared.resolved.Stmt.TheVariants as stmt;
 
     /// Begins the statement at an index of a block.
     #[tactic(auto, using(crate::proofs::Equations::begin_rules))]
-    pub(crate) fn begin(
-        &mut self,
-        statement: &Stmt,
-        block: &Block,
-        at: usize,
-    ) -> Result<(), NoMemory>
+    pub(crate) fn begin(&mut self, statement: &Stmt, block: &Block, at: usize) -> Result<(), Halt>
         requires phase { self.old.phase ≡ phase.Next }
         requires place { slice_get block.now at ≡ Some statement.now }
-        ensures config { IfOk result (λ _. config_of self.new ≡ begins self.old statement.now) }
+        ensures config { Comes result (config_of self.new) (begins self.old statement.now) }
         ensures keeps { Keeps self.old self.new }
     {
         match statement {
@@ -59,85 +56,62 @@ impl<'a> Runner<'a> {
     }
 
     /// Declares a variable.
-    fn declare(&mut self, e: &Expr) -> Result<(), NoMemory>
+    fn declare(&mut self, e: &Expr) -> Result<(), Halt>
         requires { self.old.phase ≡ phase.Next }
-        ensures config { IfOk result (λ _. config_of self.new ≡ begins self.old (stmt.Declare e.now)) }
+        ensures config { Comes result (config_of self.new) (begins self.old (stmt.Declare e.now)) }
         ensures keeps { Keeps self.old self.new }
     {
-        let Some(value) = self.value_of(e)? else {
-            self.fail();
-            return Ok(());
-        };
+        let value = self.value_of(e)?;
         self.variables.push(value)?;
         Ok(())
     }
 
     /// Gives a variable a value.
-    fn assign(&mut self, place: Option<usize>, e: &Expr) -> Result<(), NoMemory>
+    fn assign(&mut self, place: Option<usize>, e: &Expr) -> Result<(), Halt>
         requires { self.old.phase ≡ phase.Next }
-        ensures config { IfOk result (λ _. config_of self.new ≡ begins self.old (stmt.Assign place e.now)) }
+        ensures config { Comes result (config_of self.new) (begins self.old (stmt.Assign place e.now)) }
         ensures keeps { Keeps self.old self.new }
     {
-        let Some(value) = self.value_of(e)? else {
-            self.fail();
-            return Ok(());
-        };
+        let value = self.value_of(e)?;
         assign(&mut self.variables, place, value);
         Ok(())
     }
 
     /// Stores the words of a value.
-    fn store_words(&mut self, a: &Expr, e: &Expr) -> Result<(), NoMemory>
+    fn store_words(&mut self, a: &Expr, e: &Expr) -> Result<(), Halt>
         requires { self.old.phase ≡ phase.Next }
-        ensures config { IfOk result (λ _. config_of self.new ≡ begins self.old (stmt.StoreWords a.now e.now)) }
+        ensures config { Comes result (config_of self.new) (begins self.old (stmt.StoreWords a.now e.now)) }
         ensures keeps { Keeps self.old self.new }
     {
-        let Some(addr) = self.word_of(a)? else {
-            self.fail();
-            return Ok(());
-        };
-        let Some(value) = self.value_of(e)? else {
-            self.fail();
-            return Ok(());
-        };
+        let addr = self.word_of(a)?;
+        let value = self.value_of(e)?;
         if !self.memory.store_words(addr, &value) {
-            self.fail();
-            return Ok(());
+            return Err(Halt::Fails);
         }
         Ok(())
     }
 
     /// Stores the low byte of a word.
-    fn store_byte(&mut self, a: &Expr, e: &Expr) -> Result<(), NoMemory>
+    fn store_byte(&mut self, a: &Expr, e: &Expr) -> Result<(), Halt>
         requires { self.old.phase ≡ phase.Next }
-        ensures config { IfOk result (λ _. config_of self.new ≡ begins self.old (stmt.StoreByte a.now e.now)) }
+        ensures config { Comes result (config_of self.new) (begins self.old (stmt.StoreByte a.now e.now)) }
         ensures keeps { Keeps self.old self.new }
     {
-        let Some(addr) = self.word_of(a)? else {
-            self.fail();
-            return Ok(());
-        };
-        let Some(word) = self.word_of(e)? else {
-            self.fail();
-            return Ok(());
-        };
+        let addr = self.word_of(a)?;
+        let word = self.word_of(e)?;
         if !self.memory.store_byte(addr, word) {
-            self.fail();
-            return Ok(());
+            return Err(Halt::Fails);
         }
         Ok(())
     }
 
     /// Begins one of two blocks.
-    fn choose(&mut self, e: &Expr, first: &Block, second: &Block) -> Result<(), NoMemory>
+    fn choose(&mut self, e: &Expr, first: &Block, second: &Block) -> Result<(), Halt>
         requires { self.old.phase ≡ phase.Next }
-        ensures config { IfOk result (λ _. config_of self.new ≡ begins self.old (stmt.If e.now first.now second.now)) }
+        ensures config { Comes result (config_of self.new) (begins self.old (stmt.If e.now first.now second.now)) }
         ensures keeps { Keeps self.old self.new }
     {
-        let Some(word) = self.word_of(e)? else {
-            self.fail();
-            return Ok(());
-        };
+        let word = self.word_of(e)?;
         if word != 0 {
             self.open(first)?;
             Ok(())
@@ -148,16 +122,13 @@ impl<'a> Runner<'a> {
     }
 
     /// Tests a loop, the statement at an index of a block.
-    fn turn(&mut self, e: &Expr, body: &Block, block: &Block, at: usize) -> Result<(), NoMemory>
+    fn turn(&mut self, e: &Expr, body: &Block, block: &Block, at: usize) -> Result<(), Halt>
         requires phase { self.old.phase ≡ phase.Next }
         requires place { slice_get block.now at ≡ Some (stmt.While e.now body.now) }
-        ensures config { IfOk result (λ _. config_of self.new ≡ begins self.old (stmt.While e.now body.now)) }
+        ensures config { Comes result (config_of self.new) (begins self.old (stmt.While e.now body.now)) }
         ensures keeps { Keeps self.old self.new }
     {
-        let Some(word) = self.word_of(e)? else {
-            self.fail();
-            return Ok(());
-        };
+        let word = self.word_of(e)?;
         if word == 0 {
             return Ok(());
         }
@@ -169,19 +140,13 @@ impl<'a> Runner<'a> {
     }
 
     /// Calls a function.
-    fn call(&mut self, call: &Call) -> Result<(), NoMemory>
+    fn call(&mut self, call: &Call) -> Result<(), Halt>
         requires { self.old.phase ≡ phase.Next }
-        ensures config { IfOk result (λ _. config_of self.new ≡ begins self.old (stmt.Call call.now)) }
+        ensures config { Comes result (config_of self.new) (begins self.old (stmt.Call call.now)) }
         ensures keeps { Keeps self.old self.new }
     {
-        let Some(function) = call.function else {
-            self.fail();
-            return Ok(());
-        };
-        let Some(args) = self.values_of(call.args.as_slice())? else {
-            self.fail();
-            return Ok(());
-        };
+        let function = call.function.ok_or(Halt::Fails)?;
+        let args = self.values_of(call.args.as_slice())?;
         let target = copy_target(self.alloc, &call.into)?;
         let handler = share_handler(&call.handler)?;
         let variables = mem::replace(&mut self.variables, List::new(self.alloc));
@@ -195,92 +160,66 @@ impl<'a> Runner<'a> {
     }
 
     /// Returns a value.
-    fn give(&mut self, e: &Expr) -> Result<(), NoMemory>
+    fn give(&mut self, e: &Expr) -> Result<(), Halt>
         requires { self.old.phase ≡ phase.Next }
-        ensures config { IfOk result (λ _. config_of self.new ≡ begins self.old (stmt.Return e.now)) }
+        ensures config { Comes result (config_of self.new) (begins self.old (stmt.Return e.now)) }
         ensures keeps { Keeps self.old self.new }
     {
-        let Some(value) = self.value_of(e)? else {
-            self.fail();
-            return Ok(());
-        };
+        let value = self.value_of(e)?;
         self.phase = Phase::Return(value);
         Ok(())
     }
 
     /// Calls a function that takes the place of the running one.
-    fn tail_call(&mut self, function: Option<usize>, args: &List<Expr>) -> Result<(), NoMemory>
+    fn tail_call(&mut self, function: Option<usize>, args: &List<Expr>) -> Result<(), Halt>
         requires { self.old.phase ≡ phase.Next }
-        ensures config { IfOk result (λ _. config_of self.new ≡ begins self.old (stmt.TailCall function args.now)) }
+        ensures config { Comes result (config_of self.new) (begins self.old (stmt.TailCall function args.now)) }
         ensures keeps { Keeps self.old self.new }
     {
-        let Some(function) = function else {
-            self.fail();
-            return Ok(());
-        };
-        let Some(args) = self.values_of(args.as_slice())? else {
-            self.fail();
-            return Ok(());
-        };
+        let function = function.ok_or(Halt::Fails)?;
+        let args = self.values_of(args.as_slice())?;
         self.phase = Phase::TailCall(function, args);
         Ok(())
     }
 
     /// Raises an exception.
-    fn throw(&mut self, exception: Option<usize>, e: &Expr) -> Result<(), NoMemory>
+    fn throw(&mut self, exception: Option<usize>, e: &Expr) -> Result<(), Halt>
         requires { self.old.phase ≡ phase.Next }
-        ensures config { IfOk result (λ _. config_of self.new ≡ begins self.old (stmt.Raise exception e.now)) }
+        ensures config { Comes result (config_of self.new) (begins self.old (stmt.Raise exception e.now)) }
         ensures keeps { Keeps self.old self.new }
     {
-        let Some(exception) = exception else {
-            self.fail();
-            return Ok(());
-        };
-        let Some(value) = self.value_of(e)? else {
-            self.fail();
-            return Ok(());
-        };
+        let exception = exception.ok_or(Halt::Fails)?;
+        let value = self.value_of(e)?;
         self.phase = Phase::Raise(exception, value);
         Ok(())
     }
 
     /// Asks for a load.
-    fn ask_load(&mut self, size: Size, place: Option<usize>, a: &Expr) -> Result<(), NoMemory>
+    fn ask_load(&mut self, size: Size, place: Option<usize>, a: &Expr) -> Result<(), Halt>
         requires { self.old.phase ≡ phase.Next }
-        ensures config { IfOk result (λ _. config_of self.new ≡ begins self.old (stmt.SharedLoad size place a.now)) }
+        ensures config { Comes result (config_of self.new) (begins self.old (stmt.SharedLoad size place a.now)) }
         ensures keeps { Keeps self.old self.new }
     {
-        let Some(addr) = self.word_of(a)? else {
-            self.fail();
-            return Ok(());
-        };
+        let addr = self.word_of(a)?;
         if !is_shared(size, addr) {
-            self.fail();
-            return Ok(());
+            return Err(Halt::Fails);
         }
         self.phase = Phase::Asks(Question::Load { size, place, addr });
         Ok(())
     }
 
     /// Asks for a store.
-    fn ask_store(&mut self, size: Size, a: &Expr, e: &Expr) -> Result<(), NoMemory>
+    fn ask_store(&mut self, size: Size, a: &Expr, e: &Expr) -> Result<(), Halt>
         requires { self.old.phase ≡ phase.Next }
-        ensures config { IfOk result (λ _. config_of self.new ≡ begins self.old (stmt.SharedStore size a.now e.now)) }
+        ensures config { Comes result (config_of self.new) (begins self.old (stmt.SharedStore size a.now e.now)) }
         ensures keeps { Keeps self.old self.new }
     {
-        let Some(addr) = self.word_of(a)? else {
-            self.fail();
-            return Ok(());
-        };
-        let Some(word) = self.word_of(e)? else {
-            self.fail();
-            return Ok(());
-        };
+        let addr = self.word_of(a)?;
+        let word = self.word_of(e)?;
         if !is_shared(size, addr) {
-            self.fail();
-            return Ok(());
+            return Err(Halt::Fails);
         }
-        let value = low_bytes(size, word);
+        let value = size.cut(word);
         self.phase = Phase::Asks(Question::Store { size, addr, value });
         Ok(())
     }
@@ -293,53 +232,37 @@ impl<'a> Runner<'a> {
         conf_len: &Expr,
         array: &Expr,
         array_len: &Expr,
-    ) -> Result<(), NoMemory>
+    ) -> Result<(), Halt>
         requires { self.old.phase ≡ phase.Next }
-        ensures config { IfOk result (λ _. config_of self.new ≡ begins self.old (stmt.Foreign name conf.now conf_len.now array.now array_len.now)) }
+        ensures config { Comes result (config_of self.new) (begins self.old (stmt.Foreign name conf.now conf_len.now array.now array_len.now)) }
         ensures keeps { Keeps self.old self.new }
     {
-        let Some(name) = name else {
-            self.fail();
-            return Ok(());
-        };
-        let Some(conf_at) = self.word_of(conf)? else {
-            self.fail();
-            return Ok(());
-        };
-        let Some(conf_count) = self.word_of(conf_len)? else {
-            self.fail();
-            return Ok(());
-        };
-        let Some(array_at) = self.word_of(array)? else {
-            self.fail();
-            return Ok(());
-        };
-        let Some(array_count) = self.word_of(array_len)? else {
-            self.fail();
-            return Ok(());
-        };
-        self.ask_buffers(name, conf_at, conf_count, array_at, array_count);
-        Ok(())
+        let name = name.ok_or(Halt::Fails)?;
+        let conf_at = self.word_of(conf)?;
+        let conf_count = self.word_of(conf_len)?;
+        let array_at = self.word_of(array)?;
+        let array_count = self.word_of(array_len)?;
+        self.ask_buffers(name, conf_at, conf_count, array_at, array_count)
     }
 
     /// Asks for a foreign call on two buffers, each by its address and its length.
-    fn ask_buffers(&mut self, name: usize, conf: u64, conf_len: u64, array: u64, array_len: u64)
+    fn ask_buffers(
+        &mut self,
+        name: usize,
+        conf: u64,
+        conf_len: u64,
+        array: u64,
+        array_len: u64,
+    ) -> Result<(), Halt>
         requires { self.old.phase ≡ phase.Next }
-        ensures config { config_of self.new ≡ ask_foreign (names_of self.old) name conf conf_len array array_len (variables_of self.old) (frames_of self.old) self.old.memory }
+        ensures config { Comes result (config_of self.new) (ask_foreign (names_of self.old) name conf conf_len array array_len (variables_of self.old) (frames_of self.old) self.old.memory) }
         ensures keeps { Keeps self.old self.new }
     {
         if name >= self.checked.name_count() {
-            self.fail();
-            return;
+            return Err(Halt::Fails);
         }
-        let Some(conf) = self.memory.buffer(conf, conf_len) else {
-            self.fail();
-            return;
-        };
-        let Some(array) = self.memory.buffer(array, array_len) else {
-            self.fail();
-            return;
-        };
+        let conf = self.memory.buffer(conf, conf_len).ok_or(Halt::Fails)?;
+        let array = self.memory.buffer(array, array_len).ok_or(Halt::Fails)?;
         // a program that keeps every rule has few names
         let _program = self.checked.program();
         self.phase = Phase::Asks(Question::Foreign {
@@ -348,5 +271,6 @@ impl<'a> Runner<'a> {
             conf,
             array,
         });
+        Ok(())
     }
 }

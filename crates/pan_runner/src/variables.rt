@@ -1,13 +1,13 @@
 //! What is done with the variables of a function.
 
 ghost use Rattle.std.specs.Prelude.{◌≡◌, take, IfOk};
-ghost use Rattle.pan_runner.specs.Slots.{assigned, into, into_nothing};
+ghost use Rattle.source_resolver.specs.Slots.{assigned, into, into_nothing};
 ghost use Rattle.pan_runner.specs.Told.{told, all_told};
 
-use crate::resolved::Target;
 use crate::value::Value;
 use crate::values::zero_value;
 use pan_base::{List, NoMemory};
+use source_resolver::Target;
 use std::alloc::Global;
 
 /// Gives the variable at a place another value, where there is such a variable.

@@ -2,10 +2,10 @@
 
 ghost use Rattle.std.specs.Prelude.{◌≡◌, IfOk};
 
-use crate::resolved::{Block, Handler, HandlerOf, Target};
 use crate::value::Value;
 use pan_base::{List, NoMemory};
 use pan_tree::copy_shape;
+use source_resolver::{Block, Handler, HandlerOf, Target};
 use std::alloc::Global;
 
 /// What waits for a statement to be left.

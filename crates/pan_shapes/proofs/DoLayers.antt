@@ -14,59 +14,53 @@ use Rattle.pan_tree.specs.declared.syntax.StmtKind.{StmtKind, StmtKind-F, fold-r
 use Rattle.pan_tree.specs.declared.syntax.StmtKind.TheOpen as open_stmt
 use Rattle.pan_tree.specs.declared.syntax.StmtKind.TheVariants as s
 use Rattle.pan_tree.specs.Check.{Scopes, Context, State, Doing, doing, do_layer, do_kind, declare, after_target, result_of, function_of, handle, in_order}
+use Rattle.pan_tree.proofs.CheckLayers.{do_roll, do_at}
 use Rattle.pan_shapes.specs.Doings.{doings, handler_doings, call_doings}
 
-pub do_roll : (x : StmtKind-F StmtKind) → do_kind (roll-StmtKind x) ≡ do_layer (map-StmtKind StmtKind Doing do_kind x)
-unfolding do_kind
-do_roll x = fold-roll-StmtKind Doing do_layer x
-
-at_variant : (y : StmtKind-F StmtKind) (x : StmtKind) → roll-StmtKind y ≡ x → do_kind x ≡ do_layer (map-StmtKind StmtKind Doing do_kind y)
-at_variant y x is = ap do_kind (sym is) ∙ do_roll y
-
 pub do_skip : do_kind s.Skip ≡ do_layer open_stmt.Skip
-do_skip = at_variant open_stmt.Skip s.Skip s.rolls-Skip
+do_skip = do_at open_stmt.Skip s.Skip s.rolls-Skip
 
 pub do_decl : (x : List ℕ) (e : Spanned ExprKind) → do_kind (s.Decl x e) ≡ do_layer (open_stmt.Decl x e)
-do_decl x e = at_variant (open_stmt.Decl x e) (s.Decl x e) (s.rolls-Decl x e)
+do_decl x e = do_at (open_stmt.Decl x e) (s.Decl x e) (s.rolls-Decl x e)
 
 pub do_assign : (x : List ℕ) (e : Spanned ExprKind) → do_kind (s.Assign x e) ≡ do_layer (open_stmt.Assign x e)
-do_assign x e = at_variant (open_stmt.Assign x e) (s.Assign x e) (s.rolls-Assign x e)
+do_assign x e = do_at (open_stmt.Assign x e) (s.Assign x e) (s.rolls-Assign x e)
 
 pub do_store_words : (a e : Spanned ExprKind) → do_kind (s.StoreWords a e) ≡ do_layer (open_stmt.StoreWords a e)
-do_store_words a e = at_variant (open_stmt.StoreWords a e) (s.StoreWords a e) (s.rolls-StoreWords a e)
+do_store_words a e = do_at (open_stmt.StoreWords a e) (s.StoreWords a e) (s.rolls-StoreWords a e)
 
 pub do_store_byte : (a e : Spanned ExprKind) → do_kind (s.StoreByte a e) ≡ do_layer (open_stmt.StoreByte a e)
-do_store_byte a e = at_variant (open_stmt.StoreByte a e) (s.StoreByte a e) (s.rolls-StoreByte a e)
+do_store_byte a e = do_at (open_stmt.StoreByte a e) (s.StoreByte a e) (s.rolls-StoreByte a e)
 
 pub do_if : (e : Spanned ExprKind) (a b : BlockOf (Spanned StmtKind)) → do_kind (s.If e a b) ≡ do_layer (open_stmt.If e (doings a) (doings b))
-do_if e a b = at_variant (open_stmt.If e a b) (s.If e a b) (s.rolls-If e a b)
+do_if e a b = do_at (open_stmt.If e a b) (s.If e a b) (s.rolls-If e a b)
 
 pub do_while : (e : Spanned ExprKind) (b : BlockOf (Spanned StmtKind)) → do_kind (s.While e b) ≡ do_layer (open_stmt.While e (doings b))
-do_while e b = at_variant (open_stmt.While e b) (s.While e b) (s.rolls-While e b)
+do_while e b = do_at (open_stmt.While e b) (s.While e b) (s.rolls-While e b)
 
 pub do_break : do_kind s.Break ≡ do_layer open_stmt.Break
-do_break = at_variant open_stmt.Break s.Break s.rolls-Break
+do_break = do_at open_stmt.Break s.Break s.rolls-Break
 
 pub do_continue : do_kind s.Continue ≡ do_layer open_stmt.Continue
-do_continue = at_variant open_stmt.Continue s.Continue s.rolls-Continue
+do_continue = do_at open_stmt.Continue s.Continue s.rolls-Continue
 
 pub do_return : (e : Spanned ExprKind) → do_kind (s.Return e) ≡ do_layer (open_stmt.Return e)
-do_return e = at_variant (open_stmt.Return e) (s.Return e) (s.rolls-Return e)
+do_return e = do_at (open_stmt.Return e) (s.Return e) (s.rolls-Return e)
 
 pub do_tail_call : (f : List ℕ) (xs : List (Spanned ExprKind)) → do_kind (s.TailCall f xs) ≡ do_layer (open_stmt.TailCall f xs)
-do_tail_call f xs = at_variant (open_stmt.TailCall f xs) (s.TailCall f xs) (s.rolls-TailCall f xs)
+do_tail_call f xs = do_at (open_stmt.TailCall f xs) (s.TailCall f xs) (s.rolls-TailCall f xs)
 
 pub do_raise : (i : List ℕ) (e : Spanned ExprKind) → do_kind (s.Raise i e) ≡ do_layer (open_stmt.Raise i e)
-do_raise i e = at_variant (open_stmt.Raise i e) (s.Raise i e) (s.rolls-Raise i e)
+do_raise i e = do_at (open_stmt.Raise i e) (s.Raise i e) (s.rolls-Raise i e)
 
 pub do_shared_load : (n : Size) (x : List ℕ) (a : Spanned ExprKind) → do_kind (s.SharedLoad n x a) ≡ do_layer (open_stmt.SharedLoad n x a)
-do_shared_load n x a = at_variant (open_stmt.SharedLoad n x a) (s.SharedLoad n x a) (s.rolls-SharedLoad n x a)
+do_shared_load n x a = do_at (open_stmt.SharedLoad n x a) (s.SharedLoad n x a) (s.rolls-SharedLoad n x a)
 
 pub do_shared_store : (n : Size) (a e : Spanned ExprKind) → do_kind (s.SharedStore n a e) ≡ do_layer (open_stmt.SharedStore n a e)
-do_shared_store n a e = at_variant (open_stmt.SharedStore n a e) (s.SharedStore n a e) (s.rolls-SharedStore n a e)
+do_shared_store n a e = do_at (open_stmt.SharedStore n a e) (s.SharedStore n a e) (s.rolls-SharedStore n a e)
 
 pub do_foreign : (f : List ℕ) (a b d e : Spanned ExprKind) → do_kind (s.Foreign f a b d e) ≡ do_layer (open_stmt.Foreign f a b d e)
-do_foreign f a b d e = at_variant (open_stmt.Foreign f a b d e) (s.Foreign f a b d e) (s.rolls-Foreign f a b d e)
+do_foreign f a b d e = do_at (open_stmt.Foreign f a b d e) (s.Foreign f a b d e) (s.rolls-Foreign f a b d e)
 
 -- ---- two kinds that are checked alike
 
@@ -83,9 +77,9 @@ two_words_is k a e (inr (n, is)) = ap do_kind is ∙ do_shared_store n a e
 call_by : (into : Target) (f : List ℕ) (args : List (Spanned ExprKind)) (h : Option (HandlerOf (Spanned StmtKind)))
     → do_kind (s.Call (record { into = into; function = f; args = args; handler = h })) ≡ do_layer (open_stmt.Call (record { into = into; function = f; args = args; handler = handler_doings h }))
 call_by into f args None =
-    at_variant (open_stmt.Call (record { into = into; function = f; args = args; handler = None })) _ (s.rolls-Call (record { into = into; function = f; args = args; handler = None }))
+    do_at (open_stmt.Call (record { into = into; function = f; args = args; handler = None })) _ (s.rolls-Call (record { into = into; function = f; args = args; handler = None }))
 call_by into f args (Some h) =
-    at_variant (open_stmt.Call (record { into = into; function = f; args = args; handler = Some h })) _ (s.rolls-Call (record { into = into; function = f; args = args; handler = Some h }))
+    do_at (open_stmt.Call (record { into = into; function = f; args = args; handler = Some h })) _ (s.rolls-Call (record { into = into; function = f; args = args; handler = Some h }))
 
 pub do_call : (k : CallOf (Spanned StmtKind)) → do_kind (s.Call k) ≡ do_layer (open_stmt.Call (call_doings k))
 do_call k = call_by k.into k.function k.args k.handler

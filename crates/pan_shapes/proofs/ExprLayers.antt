@@ -16,13 +16,13 @@ use Rattle.pan_tree.specs.declared.syntax.ExprKind.TheOpen as open_expr
 use Rattle.pan_tree.specs.declared.syntax.ExprKind.TheVariants as e
 use Rattle.pan_tree.specs.Shapes.{APart, part_at, words_of}
 use Rattle.pan_tree.specs.Check.{Scopes, Judged, Judging, judge_layer, judge_kind, judge, judged, whole, operators, has_no_word, or_word, shape_of, is_wide, part_shape, is_of_word, is_no_part}
+use Rattle.pan_tree.proofs.CheckLayers.{judge_roll}
 use Rattle.pan_shapes.specs.declared.error.CheckError.TheVariants as error
 use Rattle.pan_shapes.specs.declared.judging.Judged.{Judged as Answer}
 use Rattle.pan_shapes.specs.Judging.{IsMade, IsJudged}
 
 roll : (x : ExprKind-F ExprKind) (place : ℕ) (v : Scopes) → judge_kind (roll-ExprKind x) place v ≡ judge_layer (map-ExprKind ExprKind Judging judge_kind x) place v
-unfolding judge_kind
-roll x place v = ap (λ f. f place v) (fold-roll-ExprKind Judging judge_layer x)
+roll x place v = ap (λ f. f place v) (judge_roll x)
 
 -- at a place, among these variables
 module _ (place : ℕ) (v : Scopes) where

@@ -5,6 +5,7 @@ use Rattle.std.specs.Str.{bytes_eq}
 use Rattle.std.specs.Option.{option_map_or}
 use Rattle.std.proofs.lemmas.Bool.{and_parts}
 use Rattle.std.proofs.lemmas.List.Folds.{list_all-append}
+use Rattle.pan_base.specs.Names.{is_foreign_name}
 use Rattle.pan_tree.specs.declared.rule.Rule.TheVariants.{NoReturn, NotWord, TooMany}
 use Rattle.pan_tree.specs.declared.shape.Shape.TheVariants as shape
 use Rattle.pan_tree.specs.declared.spanned.Spanned.{Spanned}
@@ -17,16 +18,12 @@ use Rattle.pan_tree.specs.declared.syntax.StmtKind.TheOpen as open_stmt
 use Rattle.pan_tree.specs.declared.program.Exception.{Exception}
 use Rattle.pan_tree.specs.declared.program.Function.{Function}
 use Rattle.pan_tree.specs.declared.program.Program.{Program}
-use Rattle.pan_tree.specs.Check.{Scope, Context, State, Doing, broken, doing, do_kind, do_layer, in_order, block, body, bodies, names_after, parameters, exception_of, with_name, is_foreign_name, is_too_many, breaks_of, judged, has_no_word, lawful_layer, lawful_kind, closes}
+use Rattle.pan_tree.specs.Check.{Scope, Context, State, Doing, broken, doing, do_kind, do_layer, in_order, block, body, bodies, names_after, parameters, exception_of, with_name, is_too_many, breaks_of, judged, has_no_word, lawful_layer, lawful_kind, closes}
+use Rattle.pan_tree.proofs.CheckLayers.{do_roll, lawful_roll}
 use Rattle.pan_shapes.specs.Kept.{is_short_foreign}
 use Rattle.pan_shapes.proofs.Answering.{one_holds, others_hold}
 use Rattle.pan_shapes.proofs.BodyLemmas.{no_front, no_back}
-use Rattle.pan_shapes.proofs.DoLayers.{do_roll}
 use Rattle.pan_shapes.proofs.Inducting.{statement_induct}
-
-pub lawful_roll : (x : StmtKind-F StmtKind) → lawful_kind (roll-StmtKind x) ≡ lawful_layer (map-StmtKind StmtKind Bool lawful_kind x)
-unfolding lawful_kind
-lawful_roll x = fold-roll-StmtKind Bool lawful_layer x
 
 abbrev Good : List (List ℕ) → Type 0
 Good names = list_all is_short_foreign names ≡ true

@@ -15,7 +15,7 @@ use Rattle.std.specs.Option.{option_map_or}
 use Rattle.pan_tree.specs.Shapes.{words_of}
 use Rattle.pan_tree.specs.declared.shape.Shape.TheVariants as shape
 use Rattle.pan_tree.specs.declared.program.Exception.{Exception}
-use Rattle.pan_shapes.proofs.DoLayers.{do_roll}
+use Rattle.pan_tree.proofs.CheckLayers.{do_roll}
 
 pub statement_induct : (P : StmtKind → Type 0) → ((y : StmtKind-F ((k : StmtKind) × P k)) → P (roll-StmtKind (map-StmtKind ((k : StmtKind) × P k) StmtKind (λ c. c.0) y))) → (k : StmtKind) → P k
 statement_induct P at k = ind-StmtKind P (λ x y is. subst (λ x. P (roll-StmtKind x)) is (at y)) k

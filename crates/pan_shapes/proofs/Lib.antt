@@ -11,7 +11,6 @@ mod HeadLemmas
 mod Inducting
 mod Judgements
 mod Keeping
-mod LawfulLayers
 mod NameLemmas
 mod Sums
 pub mod FieldLemmas

@@ -1,8 +1,9 @@
 -- What is kept of a checked program.
 use Rattle.std.specs.Prelude.{◌≡◌, ℕ, ◌<◌, nat_lt, ◌&&◌, not, Bool, true, List, map, length, codes, slice_get}
 use Rattle.std.specs.List.{list_all}
+use Rattle.pan_base.specs.Names.{is_foreign_name}
 use Rattle.pan_tree.specs.declared.program.Program.{Program}
-use Rattle.pan_tree.specs.Check.{IsWellShaped, HasLawfulNames, function_of, function_weight, program_weight, foreign_names, is_foreign_name}
+use Rattle.pan_tree.specs.Check.{IsWellShaped, HasLawfulNames, function_of, function_weight, program_weight, foreign_names}
 
 -- a foreign name that a checked program may have
 abbrev pub is_short_foreign : List ℕ → Bool

@@ -1,6 +1,7 @@
 //! Programs that keep every rule.
 
 ghost use Rattle.std.specs.Prelude.{◌≡◌, ◌<◌, ◌≤◌, IsTrue, Some, codes, length, map, option_map, slice_get};
+ghost use Rattle.pan_base.specs.Names.{is_foreign_name};
 ghost use Rattle.pan_tree.specs.Check as check;
 ghost use Rattle.pan_shapes.specs.Kept.{Kept, IsMainAt};
 
@@ -109,7 +110,7 @@ impl Checked {
     pub fn name(&self, i: usize) -> &[u8]
         requires { i < length (check.foreign_names self.now) }
         ensures same { Some result.now ≡ slice_get (check.foreign_names self.now) i }
-        ensures lawful { IsTrue (check.is_foreign_name result.now) }
+        ensures lawful { IsTrue (is_foreign_name result.now) }
         ensures short { length result.now ≤ 64 }
     {
         let name = &self.names.as_slice()[i];

@@ -15,8 +15,6 @@ mod names;
 mod refusals;
 mod scopes;
 mod statements;
-#[cfg(test)]
-mod tests;
 mod walking;
 mod weights;
 

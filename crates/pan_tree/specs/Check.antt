@@ -4,8 +4,8 @@ use Rattle.std.specs.Prelude.{◌≡◌, ℕ, ◌+◌, ◌*◌, nat_lt, nat_eq, 
 use Rattle.std.specs.List.{list_any, list_all}
 use Rattle.std.specs.Option.{option_map_or, is_some}
 use Rattle.std.specs.Str.{bytes_eq}
-use Rattle.pan_base.specs.Names.{is_spelled}
 pub use Rattle.pan_tree.specs.Scopes.{in_scope, is_declared, declare}
+use Rattle.pan_base.specs.Names.{is_foreign_name}
 use Rattle.pan_tree.specs.Scopes.{ScopeOf, ScopesOf, innermost}
 use Rattle.pan_tree.specs.Shapes.{words_of, Part, APart, OfWord, NoPart, part_at, is_word, same}
 use Rattle.pan_tree.specs.declared.rule.Rule.{Rule}
@@ -419,10 +419,6 @@ abbrev pub IsFirst : Program → Break → Type 0
 IsFirst p b = (others : List Break) × (breaks p ≡ b ∷ others)
 
 -- ---- lawful names
-
--- a foreign name is spelled as a name or a reserved word, and is neither `base` nor `biw`
-abbrev pub is_foreign_name : List ℕ → Bool
-is_foreign_name x = is_spelled x && not (bytes_eq x (codes "base")) && not (bytes_eq x (codes "biw"))
 
 abbrev pub block_lawful : BlockOf (Spanned Bool) → Bool
 block_lawful b = list_all (λ (x : Spanned Bool). x.kind) b.stmts

@@ -12,7 +12,10 @@ mod syntax;
 #[cfg(test)]
 mod tests;
 
-pub use laws::source_goes_on;
+pub use laws::{
+    source_goes_on, source_meets_no_limit, source_takes_in_order, statements_mean_by_parts,
+    word_is_one,
+};
 pub use level::Level;
 pub use program::{Exception, Function, Param, Program};
 pub use rule::Rule;

@@ -1,19 +1,20 @@
 -- Runs of small programs, as an assembler spells them, and what they must do: examples that the definitions of the machine are held against.
-use Rattle.std.proofs.Common.{◌≡◌, ℕ, refl, List, [], ◌∷◌}
+use Rattle.std.proofs.Common.{◌≡◌, ℕ, refl, List, [], ◌∷◌, None}
 use Rattle.std.specs.Prelude.{codes}
 use Rattle.std.specs.List.{flat_map}
 use Rattle.std.specs.Int.{w32, to_le_bytes}
 use Rattle.pan_base.specs.declared.events.Size.TheVariants.{B1, B2, B4}
 use Rattle.pan_base.specs.Events.{Load, Store, Foreign, Replied, Value, Done, Bytes, Exit, Uncaught, Stopped, Asks, Spent, Stack, Fault, only, before, Behaviour}
-use Rattle.riscv_isa.specs.Machine.{machine, run}
-use Rattle.riscv_isa.specs.Step.{step, reg, with_reg}
-use Rattle.riscv_isa.specs.Results.{plus, upper, sign_extended}
+use Rattle.riscv_isa.specs.Running.{run}
+use Rattle.riscv_isa.specs.Machine.{machine}
+use Rattle.riscv_isa.specs.Step.{step, reg}
+use Rattle.pan_base.specs.Results.{plus, upper, sign_extended}
 use Rattle.riscv_isa.specs.Regions.{place_of}
 use Rattle.riscv_isa.specs.Decoded.{decoded, r_read, i_read, s_read, l_read, b_read, j_read, jalr_read, fence_read, sh_read}
 
 -- so many steps of these words, with the foreign functions `a` and `bc`, the bytes 1 to 8 as local memory and 16 bytes of stack
 abbrev after : ℕ → List ℕ → List Replied → Behaviour
-after k words replies = machine (flat_map (to_le_bytes w32) words) (codes "a" ∷ codes "bc" ∷ []) (1 ∷ 2 ∷ 3 ∷ 4 ∷ 5 ∷ 6 ∷ 7 ∷ 8 ∷ []) 16 replies k
+after k words replies = machine (record { code = flat_map (to_le_bytes w32) words; names = codes "a" ∷ codes "bc" ∷ []; bound = None }) (1 ∷ 2 ∷ 3 ∷ 4 ∷ 5 ∷ 6 ∷ 7 ∷ 8 ∷ []) 16 replies k
 
 record KnownRuns : Type 0 where
   -- a branch back, taken four times: addi x5, x0, 5; add x11, x11, x5; addi x5, x5, -1; bne x5, x0, -8; ecall
@@ -82,7 +83,7 @@ record KnownRuns : Type 0 where
   stack_end : after 40 (0x00200513 ∷ 0x00000073 ∷ []) [] ≡ only Stack
 
 known_runs : KnownRuns
-unfolding run step reg with_reg plus upper sign_extended place_of decoded r_read i_read s_read l_read b_read j_read jalr_read fence_read sh_read
+unfolding run step reg plus upper sign_extended place_of decoded r_read i_read s_read l_read b_read j_read jalr_read fence_read sh_read
 known_runs = record {
   loops = refl;
   calls = refl;

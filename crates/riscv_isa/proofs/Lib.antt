@@ -1,3 +1,12 @@
 pub mod DecodedLaws
-pub mod KnownResults
+pub mod Fetching
+pub mod RunLaws
+pub mod Spelling
 pub mod KnownRuns
+pub mod Ranges
+pub mod Places
+pub mod WayLaws
+pub mod Fixed
+pub mod SoundLaws
+pub mod Memories
+pub mod Registers

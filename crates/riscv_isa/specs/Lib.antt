@@ -1,7 +1,10 @@
 pub mod Table
 pub mod Decoded
+pub mod Held
 pub mod Regions
-pub mod Results
+pub mod Running
 pub mod Step
-pub mod Machine
+pub mod Sound
+pub mod Ways
 pub mod Image
+pub mod Machine

@@ -1,9 +1,6 @@
--- Data memory: its regions, where an access goes, and the numbers that lie there.
-use Rattle.std.specs.Prelude.{ℕ, ◌+◌, ◌-◌, ◌%◌, ◌&&◌, ◌==◌, nat_le, Bool, if◌then◌else◌, List, ◌++◌, length, take, drop}
-use Rattle.std.specs.Int.{Width, w8, w16, w32, w64, to_le_bytes, from_le_bytes}
-use Rattle.pan_base.specs.declared.events.Size.{Size}
-use Rattle.pan_base.specs.declared.events.Size.TheVariants.{B1, B2, B4, B8}
-use Rattle.pan_base.specs.Events.{byte_count}
+-- Data memory: its regions, and where an access goes.
+use Rattle.std.specs.Prelude.{ℕ, ◌+◌, ◌≤◌, ◌-◌, ◌%◌, ◌==◌, Bool, if◌then◌else◌, List, length}
+use Rattle.pan_base.specs.Bytes.{is_within}
 use Rattle.riscv_isa.specs.declared.place.Region.{Region}
 use Rattle.riscv_isa.specs.declared.place.Region.TheVariants.{Block, Globals, Local, Stack}
 use Rattle.riscv_isa.specs.declared.place.Place.{Place}
@@ -37,10 +34,6 @@ with_bytes Globals bytes d = record d { globals = bytes }
 with_bytes Local bytes d = record d { local = bytes }
 with_bytes Stack bytes d = record d { stack = bytes }
 
--- the access of so many bytes at the address lies wholly in what begins at `from` and has `count` bytes
-abbrev pub is_within : ℕ → ℕ → ℕ → ℕ → Bool
-is_within from count addr size = nat_le from addr && nat_le (addr + size) (from + count)
-
 -- the access lies wholly in the region
 abbrev pub is_in : Region → Memory → ℕ → ℕ → Bool
 is_in r d addr size = is_within (begin r) (length (bytes_of r d)) addr size
@@ -57,25 +50,14 @@ place_of d addr size =
     else Nowhere)))))
     else Nowhere
 
--- how wide an access is
-abbrev pub width : Size → Width
-width B1 = w8
-width B2 = w16
-width B4 = w32
-width B8 = w64
+-- each region ends where the next one or the shared window begins, or before
+pub record AreApart (d : Memory) : Type 0 where
+  pub block : begin Block + length d.block ≤ begin Globals
+  pub globals : begin Globals + length d.globals ≤ begin Local
+  pub local : begin Local + length d.local ≤ begin Stack
+  pub stack : begin Stack + length d.stack ≤ 0x40000000
 
--- the bytes with the number's low bytes at a place, the lowest first
-abbrev pub with_number : Size → List ℕ → ℕ → ℕ → List ℕ
-with_number size bytes at n = take at bytes ++ to_le_bytes (width size) n ++ drop (at + byte_count size) bytes
-
--- the number of the bytes at a place, the lowest first
-abbrev pub number_at : Size → List ℕ → ℕ → ℕ
-number_at size bytes at = from_le_bytes (width size) (take (byte_count size) (drop at bytes))
-
--- so many bytes from a place on
-abbrev pub part : List ℕ → ℕ → ℕ → List ℕ
-part bytes at count = take count (drop at bytes)
-
--- the bytes with others at a place
-abbrev pub with_part : List ℕ → ℕ → List ℕ → List ℕ
-with_part bytes at new = take at bytes ++ new ++ drop (at + length new) bytes
+-- so many bytes from an address on lie in a region
+pub record IsInside (r : Region) (d : Memory) (addr size : ℕ) : Type 0 where
+  pub from : begin r ≤ addr
+  pub to : addr + size ≤ begin r + length (bytes_of r d)

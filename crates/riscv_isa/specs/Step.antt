@@ -1,6 +1,5 @@
 -- One step of the machine.
-use Rattle.std.specs.Prelude.{ℕ, ◌+◌, ◌-◌, ◌*◌, ◌/◌, ◌%◌, ◌^◌, ◌==◌, ◌&&◌, nat_lt, nat_le, List, [], length, take, drop, Option, Some, None, unwrap_or, if◌then◌else◌, slice_get, slice_index, slice_set}
-use Rattle.std.specs.Int.{w32, from_le_bytes}
+use Rattle.std.specs.Prelude.{ℕ, ◌+◌, ◌-◌, ◌*◌, ◌/◌, ◌%◌, ◌^◌, ◌==◌, ◌&&◌, nat_lt, List, [], length, Option, Some, None, unwrap_or, if◌then◌else◌, slice_get, slice_index, slice_set}
 use Rattle.pan_base.specs.declared.events.Size.{Size}
 use Rattle.pan_base.specs.declared.operators.LOp.{LOp}
 use Rattle.pan_base.specs.Words.{compare}
@@ -14,9 +13,13 @@ use Rattle.riscv_isa.specs.declared.pending.Buffer.{Buffer}
 use Rattle.riscv_isa.specs.declared.pending.Pending.{Pending}
 use Rattle.riscv_isa.specs.declared.pending.Pending.TheVariants as pending
 use Rattle.riscv_isa.specs.Decoded.{decoded}
-use Rattle.riscv_isa.specs.Regions.{Memory, begin, bytes_of, with_bytes, is_in, place_of, number_at, with_number, part, with_part}
-use Rattle.riscv_isa.specs.Results.{r_result, i_result, sh_result, u_result, l_result, loads, stores}
-unfoldable pub use Rattle.riscv_isa.specs.Results.{plus, upper}
+use Rattle.riscv_isa.specs.Held.{word_at}
+use Rattle.riscv_isa.specs.Running as running
+pub use Rattle.riscv_isa.specs.Running.{Runs, Waits, Over}
+use Rattle.pan_base.specs.Bytes.{number_at, with_number, part, with_part}
+use Rattle.riscv_isa.specs.Regions.{Memory, begin, bytes_of, with_bytes, is_in, place_of}
+use Rattle.pan_base.specs.Results.{r_result, i_result, sh_result, u_result, l_result, loads, stores}
+unfoldable pub use Rattle.pan_base.specs.Results.{plus, upper}
 
 -- the 32 registers, the program counter, the bytes of the code, the names of the foreign functions, and data memory
 pub record State : Type 0 where
@@ -26,19 +29,17 @@ pub record State : Type 0 where
   pub names : List (List ℕ)
   pub memory : Memory
 
--- it runs, waits for a reply before it runs on, or is over
-pub data Config : Type 0 where
-  Runs : (s : State) → Config
-  Waits : (p : Pending) (s : State) → Config
-  Over : (e : Ending) → Config
+-- what a step leads to: a state that runs, or waits for a reply, or the end
+abbrev pub Config : Type 0
+Config = running.Config Pending State
 
 -- register 0 reads as 0
 unfoldable pub reg : State → ℕ → ℕ
 reg s i = if i == 0 then 0 else slice_index s.registers i
 
 -- writes to register 0 are dropped
-unfoldable pub with_reg : State → ℕ → ℕ → State
-with_reg s i n = if i == 0 then s else record s { registers = slice_set s.registers i n }
+abbrev pub with_reg : State → ℕ → ℕ → State
+with_reg s i n = record s { registers = if i == 0 then s.registers else slice_set s.registers i n }
 
 -- at the next instruction
 abbrev pub next : State → State
@@ -105,10 +106,7 @@ act_some (Some i) s = act i s
 
 -- the word at pc, where it lies in the code
 abbrev pub fetched : State → Option ℕ
-fetched s =
-    if nat_le 0x100000000 s.pc && nat_le (s.pc + 4) (0x100000000 + length s.code)
-    then Some (from_le_bytes w32 (take 4 (drop (s.pc - 0x100000000) s.code)))
-    else None
+fetched s = word_at s.code s.pc
 
 abbrev pub decoded_some : Option ℕ → Option Instr
 decoded_some None = None

@@ -3,7 +3,7 @@
 
 ghost use Rattle.std.specs.Prelude.{◌≡◌, ◌==◌, ◌&&◌, ◌⊎◌, IfSome, Some, find, ◌+◌, ◌*◌, ◌^◌};
 ghost use Rattle.pan_base.specs.Words.{signed};
-ghost use Rattle.riscv_isa.specs.Table.{field, r_code, i_opcode, i_funct3, l_funct3, s_funct3, b_funct3, Instruction};
+ghost use Rattle.riscv_isa.specs.Table.{field, r_code, i_opcode, i_funct3, l_funct3, s_funct3, b_funct3, Instruction, InRange};
 ghost use Rattle.riscv_isa.specs.Decoded.{r_ops, i_ops, l_ops, s_ops, b_ops, r_read, i_read, sh_read, l_read, s_read, b_read, j_read, jalr_read, fence_read, or_else, decoded};
 ghost use Rattle.riscv_isa.specs.declared.instr.Instr.{Instr};
 
@@ -319,12 +319,13 @@ fn read(word: u32) -> Option<Instr>
     }
 }
 
-/// The instruction that a word stands for, or `None` where it stands for none.
-#[tactic(auto, using(crate::proofs::DecodedLaws::reads, crate::proofs::DecodedLaws::fits))]
+/// The instruction that a word stands for, with its fields in range, or `None` where it stands for none.
+#[tactic(auto, using(crate::proofs::DecodedLaws::reads, crate::proofs::DecodedLaws::fits, crate::proofs::Ranges::decoded_in_range))]
 pub fn decode(word: u32) -> Option<Instr>
     ensures value { result ≡ decoded word }
     ensures fits { IfSome result (λ i. Instruction word i) }
     ensures only { (i : Instr) → Instruction word i → result ≡ Some i }
+    ensures range { IfSome result InRange }
 {
     read(word)
 }

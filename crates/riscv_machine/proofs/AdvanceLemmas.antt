@@ -1,14 +1,13 @@
 -- A machine advances as an asker.
-use Rattle.std.proofs.Common.{◌≡◌, ℕ, ◌+◌, ◌≤◌, zero, suc, refl, sym, ap, ◌∙◌, subst, arith, inl, inr, List, [], Option, Some, None, length}
+use Rattle.std.proofs.Common.{◌≡◌, ℕ, ◌+◌, ◌≤◌, suc, refl, sym, ap, ◌∙◌, subst, arith, inl, inr, List, Some, None, length}
 use Rattle.std.specs.Prelude.{◌⊎◌, IsSome}
 use Rattle.std.proofs.lemmas.Bool.{false≢true}
 use Rattle.pan_base.specs.Events.{Asked, Replied, Ending, Stopped, Spent, only}
 use Rattle.pan_port.specs.declared.asker.Pause.{Pause}
-use Rattle.pan_port.specs.declared.asker.Pause.TheVariants as pause
 use Rattle.pan_port.specs.Asker.{Meaning, Advances, HasEnded, IsOver, PausesAt}
 use Rattle.riscv_isa.specs.declared.pending.Pending.{Pending}
 use Rattle.riscv_isa.specs.Step.{State, Config, Runs, Waits, Over, step, request_of}
-use Rattle.riscv_isa.specs.Machine.{run}
+use Rattle.riscv_isa.specs.Running.{run}
 use Rattle.riscv_machine.specs.declared.machine.MachineEnd.{MachineEnd}
 use Rattle.riscv_machine.specs.declared.machine.MachineEnd.TheVariants as machine_end
 use Rattle.riscv_machine.specs.declared.machine.Machine.{Machine}

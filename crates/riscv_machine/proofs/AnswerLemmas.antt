@@ -1,15 +1,16 @@
 -- A machine that waits asks, and takes an answer.
 use Rattle.std.proofs.Common.{◌≡◌, ℕ, refl, sym, ap, subst, arith, List, ◌∷◌, Some, Bool, true, false, length}
 use Rattle.std.specs.Prelude.{IsTrue}
-use Rattle.pan_base.specs.Events.{Asked, Replied, Fits, fits, Stopped, Behaviour, only, before}
+use Rattle.pan_base.specs.Events.{Asked, Replied, Fits, fits}
 use Rattle.pan_port.specs.Asker.{Meaning, Answers, Takes, Ends, IsAsking}
 use Rattle.riscv_isa.specs.declared.pending.Pending.{Pending}
-use Rattle.riscv_isa.specs.Step.{State, Config, Runs, Waits, Over, request_of, resumed}
-use Rattle.riscv_isa.specs.Machine.{taken, run}
+use Rattle.riscv_isa.specs.Step.{State, Waits, request_of, resumed}
+use Rattle.riscv_isa.specs.Running.{taken}
+use Rattle.riscv_isa.specs.Machine.{run}
 use Rattle.riscv_machine.specs.declared.machine.Machine.{Machine}
 use Rattle.riscv_machine.specs.declared.machine.Phase.TheVariants as phase
 use Rattle.riscv_machine.specs.View.{config_in, pending_in}
-use Rattle.riscv_machine.specs.Machine.{state_of, config_of, goes, meaning_in, meaning_of, HasSize}
+use Rattle.riscv_machine.specs.Machine.{state_of, config_of, meaning_in, meaning_of, HasSize}
 use Rattle.riscv_machine.specs.Taking.{config_by, config_after}
 
 false_of : (b : Bool) → ¬ IsTrue b → b ≡ false

@@ -1,3 +1,4 @@
 pub mod AnswerLemmas
 pub mod AdvanceLemmas
 pub mod NameLemmas
+pub mod EndLemmas

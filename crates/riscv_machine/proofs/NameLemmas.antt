@@ -4,8 +4,8 @@ use Rattle.std.specs.Prelude.{◌==◌, ◌&&◌, not, nat_le, codes}
 use Rattle.std.specs.List.{list_all, list_any}
 use Rattle.std.specs.Str.{bytes_eq}
 use Rattle.std.proofs.lemmas.Bool.{false≢true, eqb-true, and_parts}
-use Rattle.pan_base.specs.Names.{is_word_byte, is_letter, is_spelled}
-use Rattle.riscv_isa.specs.Image.{is_foreign_name, are_foreign_names}
+use Rattle.pan_base.specs.Names.{is_word_byte, is_letter, is_spelled, is_foreign_name, is_short_foreign_name}
+use Rattle.riscv_isa.specs.Image.{are_foreign_names}
 
 abbrev is_no_feed : ℕ → Bool
 is_no_feed b = not (b == 10)
@@ -36,23 +36,22 @@ spelled (b ∷ bs) h =
     let p = and_parts (is_letter b) (list_all is_word_byte bs) h in
     both (is_no_feed b) (list_all is_no_feed bs) (letter b p.0) (word_bytes bs p.1)
 
-foreign : (name : List ℕ) → is_foreign_name name ≡ true → list_all is_no_feed name ≡ true
+foreign : (name : List ℕ) → is_short_foreign_name name ≡ true → list_all is_no_feed name ≡ true
 foreign name h =
-    let short = nat_le (length name) 64 in
     let base = not (bytes_eq name (codes "base")) in
     let biw = not (bytes_eq name (codes "biw")) in
-    let p = and_parts (is_spelled name && short && base) biw h in
-    let q = and_parts (is_spelled name && short) base p.0 in
-    spelled name (and_parts (is_spelled name) short q.0).0
+    let p = and_parts (is_foreign_name name) (nat_le (length name) 64) h in
+    let q = and_parts (is_spelled name && base) biw p.0 in
+    spelled name (and_parts (is_spelled name) base q.0).0
 
 -- each name of lawful names
 pub no_feeds : (names : List (List ℕ)) (i : ℕ) (d : List ℕ) → are_foreign_names names ≡ true → i < length names → list_all (λ b. not (b == 10)) (get_or names i d) ≡ true
 no_feeds [] i d h lt = absurd (omega arith)
 no_feeds (name ∷ names) zero d h lt =
     let differs = not (list_any (λ other. bytes_eq other name) names) in
-    let p = and_parts (is_foreign_name name && differs) (are_foreign_names names) h in
-    foreign name (and_parts (is_foreign_name name) differs p.0).0
+    let p = and_parts (is_short_foreign_name name && differs) (are_foreign_names names) h in
+    foreign name (and_parts (is_short_foreign_name name) differs p.0).0
 no_feeds (name ∷ names) (suc i) d h lt =
     let differs = not (list_any (λ other. bytes_eq other name) names) in
-    let p = and_parts (is_foreign_name name && differs) (are_foreign_names names) h in
+    let p = and_parts (is_short_foreign_name name && differs) (are_foreign_names names) h in
     no_feeds names i d p.1 (omega arith)

@@ -2,11 +2,13 @@
 use Rattle.std.specs.Prelude.{◌≡◌, ◌⊎◌, ◌+◌, ◌≤◌, ℕ, List, length, true, false}
 use Rattle.pan_base.specs.Events.{Replied, Behaviour}
 use Rattle.pan_port.specs.Asker.{Meaning}
-use Rattle.riscv_isa.specs.Step.{State, Config}
+use Rattle.riscv_isa.specs.Running.{Leads}
+use Rattle.riscv_isa.specs.Step.{State, Config, Over, step}
 use Rattle.riscv_isa.specs.Machine.{continue, run}
 use Rattle.riscv_machine.specs.declared.machine.Machine.{Machine}
-use Rattle.riscv_machine.specs.declared.machine.Phase.TheVariants.{Running}
-use Rattle.riscv_machine.specs.View.{config_in, pending_in, ended_in, ahead_in, IsUnrefused}
+use Rattle.riscv_machine.specs.declared.machine.MachineEnd.{MachineEnd}
+use Rattle.riscv_machine.specs.declared.machine.Phase.TheVariants.{Running, Ended}
+use Rattle.riscv_machine.specs.View.{config_in, pending_in, ended_in, ahead_in, ending_of, IsUnrefused}
 
 -- the registers, the program counter, the code, the names and data memory of a machine
 abbrev pub state_of : Machine → State
@@ -67,3 +69,8 @@ pub record Ran (old new : Machine) (budget used : ℕ) : Type 0 where
   pub size : HasSize old new
   pub origin : ComesFrom old new used
   pub spent : new.phase ≡ Running → used ≡ budget
+
+-- A machine that ran and has ended by itself after so many steps stands where it came to its last instruction.
+abbrev pub StandsAtEnd : Machine → Machine → ℕ → Type 0
+StandsAtEnd old new used = (end : MachineEnd) → old.phase ≡ Running → new.phase ≡ Ended end →
+    (n : ℕ) × (used ≡ n + 1) × Leads step n (state_of old) (state_of new) × (step (state_of new) ≡ Over (ending_of end))

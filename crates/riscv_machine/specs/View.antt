@@ -1,5 +1,5 @@
 -- A machine's phase as the definitions see it.
-use Rattle.std.specs.Prelude.{ℕ, ◌+◌, ◌&&◌, Bool, true, nat_lt, nat_le, Option, Some, None}
+use Rattle.std.specs.Prelude.{◌≡◌, ℕ, ◌+◌, ◌&&◌, Bool, true, nat_lt, nat_le, Option, Some, None}
 use Rattle.pan_base.specs.Events.{Asked, Ending, Exit, Uncaught, Stopped, Stack, Fault}
 use Rattle.riscv_isa.specs.declared.pending.Buffer.{Buffer}
 use Rattle.riscv_isa.specs.declared.pending.Pending.TheVariants as pending
@@ -54,3 +54,8 @@ is_lawful _ names size = true
 abbrev pub IsUnrefused : Phase → Type 0
 IsUnrefused (phase.Refused p) = ⊥
 IsUnrefused _ = Unit {0}
+
+-- where it has ended, its state is the one before
+abbrev pub IsKeptAtEnd : Phase → State → State → Type 0
+IsKeptAtEnd (phase.Ended end) before after = after ≡ before
+IsKeptAtEnd _ before after = Unit {0}

@@ -1,27 +1,15 @@
 //! Loads and stores (RISC-V unprivileged ISA, section 2.6).
 
-ghost use Rattle.std.specs.Prelude.{◌≡◌, ◌+◌, ◌*◌, ◌%◌, ◌<◌, ◌^◌};
+ghost use Rattle.std.specs.Prelude.{◌≡◌, ◌+◌, ◌<◌, ◌^◌};
 ghost use Rattle.pan_base.specs.Events.{byte_count};
 ghost use Rattle.riscv_isa.specs.Regions.{place_of};
-ghost use Rattle.riscv_isa.specs.Results.{loads};
-ghost use Rattle.riscv_machine.specs.View.{IsUnrefused};
+ghost use Rattle.pan_base.specs.Results.{loads};
+ghost use Rattle.riscv_machine.specs.View.{IsUnrefused, IsKeptAtEnd};
 
 use crate::machine::{Machine, MachineEnd, Phase};
 use crate::results::{l_result, loads};
 use pan_base::{LOp, Size};
 use riscv_isa::{Pending, Place};
-
-/// The value's low bytes.
-fn low_bytes(size: Size, value: u64) -> u64
-    ensures { result ≡ value % 2 ^ (8 * byte_count size) }
-{
-    match size {
-        Size::B1 => value % (1 << 8),
-        Size::B2 => value % (1 << 16),
-        Size::B4 => value % (1 << 32),
-        Size::B8 => value,
-    }
-}
 
 impl Machine {
     ghost use Rattle.riscv_isa.specs.Step.{load, store};
@@ -37,6 +25,7 @@ impl Machine {
             load (place_of self.old.memory addr (byte_count (loads op))) op rd addr (state_of self.old) }
         ensures size { HasSize self.old self.new }
         ensures unrefused { IsUnrefused self.new.phase }
+        ensures kept { IsKeptAtEnd self.new.phase (state_of self.old) (state_of self.new) }
     {
         let size = loads(op);
         match self.memory.find_place(addr, size) {
@@ -60,6 +49,7 @@ impl Machine {
             store (place_of self.old.memory addr (byte_count size)) size addr value (state_of self.old) }
         ensures size { HasSize self.old self.new }
         ensures unrefused { IsUnrefused self.new.phase }
+        ensures kept { IsKeptAtEnd self.new.phase (state_of self.old) (state_of self.new) }
     {
         match self.memory.find_place(addr, size) {
             Place::In(region, at) => {
@@ -67,7 +57,7 @@ impl Machine {
                 self.pc += 4;
             }
             Place::Window => {
-                let value = low_bytes(size, value);
+                let value = size.cut(value);
                 self.phase = Phase::Waiting(Pending::Store { size, addr, value });
                 self.pc += 4;
             }

@@ -1,7 +1,8 @@
 //! The machine as what runs and asks.
 
-ghost use Rattle.std.specs.Prelude.{◌≡◌, ◌+◌, ◌≤◌, ◌<◌, ◌↔◌, length, IsTrue};
+ghost use Rattle.std.specs.Prelude.{◌≡◌, ◌+◌, ◌≤◌, ◌<◌, ◌↔◌, length, IsTrue, IfOk};
 ghost use Rattle.pan_base.specs.Events.{asked, replied, end_of, Fits};
+ghost use Rattle.pan_port.specs.Asker.{AfterAdvance};
 ghost use Rattle.pan_port.specs.Buffers.{BuffersFit};
 ghost use Rattle.riscv_isa.specs.Step.{request_of, resumed};
 ghost use Rattle.riscv_machine.specs.View.{ending_of};
@@ -30,13 +31,14 @@ impl MachineEnd {
 
 impl Machine {
     ghost use Rattle.riscv_isa.specs.Step.{Runs};
-    ghost use Rattle.riscv_machine.specs.Machine.{state_of, config_of, HasSize, Ran};
+    ghost use Rattle.riscv_machine.specs.Machine.{state_of, config_of, HasSize, Ran, StandsAtEnd};
     ghost use Rattle.riscv_machine.specs.Taking.{config_after};
     ghost use Rattle.riscv_machine.specs.declared.machine.Phase.TheVariants.{Waiting};
 
     /// Takes steps while it runs and some of the budget are left. How many it took.
     fn run(&mut self, budget: u64) -> u64
-        ensures { Ran self.old self.new budget result }
+        ensures ran { Ran self.old self.new budget result }
+        ensures end { StandsAtEnd self.old self.new result }
     {
         let mut used = 0;
         'steps: while used < budget {
@@ -140,11 +142,17 @@ impl Machine {
 }
 
 impl Asker for Machine {
-    ghost use Rattle.riscv_machine.specs.Machine.{meaning_of};
+    ghost use Rattle.riscv_machine.specs.Machine.{meaning_of, StandsAtEnd};
 
     ghost meaning = { meaning_of };
 
-    fn advance(&mut self, budget: u64) -> Result<Advance, NoMemory> {
+    fn advance(&mut self, budget: u64) -> Result<Advance, NoMemory>
+        ensures advances { AfterAdvance (meaning_of self.old) (meaning_of self.new) budget result }
+
+        // The registers, the program counter and data memory of a machine that has ended are those with which it came to its last
+        // instruction: one that can't be done writes nothing.
+        ensures end { IfOk result (λ advance. StandsAtEnd self.old self.new advance.used) }
+    {
         let used = self.run(budget);
         let pause = self.pause();
         Ok(Advance { used, pause })

@@ -1,7 +1,7 @@
 //! Jumps and branches (RISC-V unprivileged ISA, section 2.5).
 
 ghost use Rattle.std.specs.Prelude.{◌≡◌, ◌+◌, ◌<◌, ◌^◌};
-ghost use Rattle.riscv_machine.specs.View.{IsUnrefused};
+ghost use Rattle.riscv_machine.specs.View.{IsUnrefused, IsKeptAtEnd};
 
 use crate::machine::{Machine, MachineEnd, Phase};
 use crate::results::plus;
@@ -20,6 +20,7 @@ impl Machine {
         ensures config { config_of self.new ≡ jump target (state_of self.old) }
         ensures size { HasSize self.old self.new }
         ensures unrefused { IsUnrefused self.new.phase }
+        ensures kept { IsKeptAtEnd self.new.phase (state_of self.old) (state_of self.new) }
     {
         if target % 4 == 0 {
             self.pc = target;
@@ -28,7 +29,7 @@ impl Machine {
         }
     }
 
-    /// Goes to an address, with that of the next instruction in a register.
+    /// Goes to an address, with that of the next instruction in a register. A fault writes no register.
     pub(crate) fn jump_and_link(&mut self, rd: u8, target: u64)
         requires rd { rd < 32 }
         requires pc { self.old.pc + 4 < 2 ^ 64 }
@@ -36,9 +37,13 @@ impl Machine {
         ensures config { config_of self.new ≡ jump target (linked rd (state_of self.old)) }
         ensures size { HasSize self.old self.new }
         ensures unrefused { IsUnrefused self.new.phase }
+        ensures kept { IsKeptAtEnd self.new.phase (state_of self.old) (state_of self.new) }
     {
-        self.set_register(rd, self.pc + 4);
+        let next = self.pc + 4;
         self.jump(target);
+        if let Phase::Running = self.phase {
+            self.set_register(rd, next);
+        }
     }
 
     /// JALR: to the sum of a register and an immediate, with bit 0 cleared.
@@ -50,6 +55,7 @@ impl Machine {
         ensures config { config_of self.new ≡ act (instr.Jalr rd rs1 imm) (state_of self.old) }
         ensures size { HasSize self.old self.new }
         ensures unrefused { IsUnrefused self.new.phase }
+        ensures kept { IsKeptAtEnd self.new.phase (state_of self.old) (state_of self.new) }
     {
         let target = plus(self.register(rs1), imm) / 2 * 2;
         self.jump_and_link(rd, target);
@@ -64,6 +70,7 @@ impl Machine {
         ensures config { config_of self.new ≡ act (instr.B op rs1 rs2 imm) (state_of self.old) }
         ensures size { HasSize self.old self.new }
         ensures unrefused { IsUnrefused self.new.phase }
+        ensures kept { IsKeptAtEnd self.new.phase (state_of self.old) (state_of self.new) }
     {
         if op.holds(self.register(rs1), self.register(rs2)) {
             self.jump(plus(self.pc, imm));

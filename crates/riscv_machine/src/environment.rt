@@ -5,7 +5,7 @@ ghost use Rattle.std.specs.Prelude.{◌≡◌, ◌+◌, ◌<◌, ◌^◌, MatchO
 ghost use Rattle.riscv_isa.specs.Regions.{is_in};
 ghost use Rattle.riscv_isa.specs.Step.{ended, buffer};
 ghost use Rattle.riscv_isa.specs.declared.place.Region.TheVariants.{Local};
-ghost use Rattle.riscv_machine.specs.View.{IsUnrefused, ending_of, is_inside};
+ghost use Rattle.riscv_machine.specs.View.{IsUnrefused, IsKeptAtEnd, ending_of, is_inside};
 
 use crate::machine::{Machine, MachineEnd, Phase};
 use riscv_isa::{Buffer, Pending};
@@ -51,6 +51,7 @@ impl Machine {
         ensures config { config_of self.new ≡ foreign (state_of self.old) }
         ensures size { HasSize self.old self.new }
         ensures unrefused { IsUnrefused self.new.phase }
+        ensures kept { IsKeptAtEnd self.new.phase (state_of self.old) (state_of self.new) }
     {
         let number = self.register(14);
         let conf = self.buffer(self.register(10), self.register(11));
@@ -76,6 +77,7 @@ impl Machine {
         ensures config { config_of self.new ≡ ecall (reg (state_of self.old) 17) (state_of self.old) }
         ensures size { HasSize self.old self.new }
         ensures unrefused { IsUnrefused self.new.phase }
+        ensures kept { IsKeptAtEnd self.new.phase (state_of self.old) (state_of self.new) }
     {
         match self.register(17) {
             0 => self.phase = Phase::Ended(end_of(self.register(10), self.register(11))),

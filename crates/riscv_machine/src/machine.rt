@@ -2,8 +2,9 @@
 
 ghost use Rattle.std.specs.Prelude.{◌≡◌, ◌+◌, ◌≤◌, ◌<◌, ◌^◌, ℕ, List, length, IsTrue, IfOk};
 ghost use Rattle.pan_base.specs.Events.{Replied};
+ghost use Rattle.pan_base.specs.Lawful.{IsLawfulMemory, IsLawfulStack};
 ghost use Rattle.riscv_isa.specs.Image.{are_foreign_names};
-ghost use Rattle.riscv_isa.specs.Machine.{booted, machine, IsLawfulMemory, IsLawfulStack};
+ghost use Rattle.riscv_isa.specs.Machine.{booted, machine};
 ghost use Rattle.riscv_machine.specs.View.{is_lawful};
 
 use crate::memory::DataMemory;
@@ -62,9 +63,9 @@ impl Machine {
         requires memory { IsLawfulMemory memory.now }
         requires stack { IsLawfulStack stack }
         ensures config { IfOk result (λ m.
-            config_of m ≡ Runs (booted image.code image.names memory.now stack)) }
+            config_of m ≡ Runs (booted image memory.now stack)) }
         ensures go { IfOk result (λ m. (replies : List Replied) (k : ℕ) →
-            (meaning_of m).go replies k ≡ machine image.code image.names memory.now stack replies k) }
+            (meaning_of m).go replies k ≡ machine image memory.now stack replies k) }
     {
         // the image's lawfulness comes with its code
         let _code = image.code();
@@ -102,7 +103,6 @@ impl Machine {
     }
 
     /// Writes a register. A write to register 0 is dropped.
-    #[tactic(auto, unfolding(riscv_isa::specs::Step::with_reg))]
     pub(crate) fn set_register(&mut self, rd: u8, value: u64)
         requires { rd < 32 }
         ensures state { state_of self.new ≡ with_reg (state_of self.old) rd value }

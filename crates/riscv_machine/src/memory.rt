@@ -2,7 +2,8 @@
 
 ghost use Rattle.std.specs.Prelude.{◌≡◌, ◌+◌, ◌*◌, ◌%◌, ◌^◌, ◌≤◌, ◌<◌, ◌==◌, [], length, replicate, IfOk};
 ghost use Rattle.pan_base.specs.Events.{byte_count};
-ghost use Rattle.riscv_isa.specs.Regions.{is_in, bytes_of, with_bytes, is_within, place_of, number_at, with_number, part, with_part};
+ghost use Rattle.pan_base.specs.Bytes.{is_within, number_at, with_number, part, with_part};
+ghost use Rattle.riscv_isa.specs.Regions.{is_in, bytes_of, with_bytes, place_of};
 ghost use Rattle.riscv_isa.specs.declared.place.Region.TheVariants.{Local};
 ghost use Rattle.riscv_machine.specs.Places.{EndsWithin, IsSmall};
 
@@ -47,18 +48,6 @@ fn is_within(from: u64, count: u64, addr: u64, size: u64) -> bool
     ensures { result ≡ is_within from count addr size }
 {
     addr >= from && size <= count && addr - from <= count - size
-}
-
-/// How many bytes an access has.
-fn byte_count(size: Size) -> u64
-    ensures { result ≡ byte_count size }
-{
-    match size {
-        Size::B1 => 1,
-        Size::B2 => 2,
-        Size::B4 => 4,
-        Size::B8 => 8,
-    }
 }
 
 /// Whether the address is a multiple of the size.
@@ -170,7 +159,7 @@ impl DataMemory {
         ensures place { result ≡ place_of self.now addr (byte_count size) }
         ensures bounds { EndsWithin self.now (byte_count size) result }
     {
-        let count = byte_count(size);
+        let count = size.bytes();
         if !is_aligned(addr, size) {
             Place::Nowhere
         } else if is_within(0x0800_0000, self.block.len() as u64, addr, count) {

@@ -3,7 +3,7 @@
 
 ghost use Rattle.std.specs.Prelude.{◌≡◌, ◌*◌, ◌/◌, ◌^◌, ◌<◌};
 ghost use Rattle.pan_base.specs.Events.{byte_count};
-ghost use Rattle.riscv_isa.specs.Results.{plus, upper, immediate, low_half, r_result, i_result, sh_result, u_result, loads, l_result, stores};
+ghost use Rattle.pan_base.specs.Results.{plus, upper, immediate, low_half, r_result, i_result, sh_result, u_result, loads, l_result, stores};
 ghost use Rattle.riscv_isa.specs.Table.{amounts};
 
 use pan_base::{BinOp, Cmp, IOp, LOp, ROp, SOp, ShOp, ShiftOp, Size, UOp};
@@ -20,7 +20,7 @@ fn immediate(imm: i32) -> u64
 }
 
 /// A sum of a word and an immediate, which wraps at 2^64.
-#[tactic(auto, unfolding(riscv_isa::specs::Results::plus))]
+#[tactic(auto, unfolding(pan_base::specs::Results::plus))]
 pub fn plus(a: u64, imm: i32) -> u64
     ensures { result ≡ plus a imm }
 {
@@ -28,7 +28,7 @@ pub fn plus(a: u64, imm: i32) -> u64
 }
 
 /// The low 32 bits, with the sign in the bits above.
-#[tactic(auto, unfolding(riscv_isa::specs::Results::sign_extended))]
+#[tactic(auto, unfolding(pan_base::specs::Results::sign_extended))]
 fn low_half(n: u64) -> u64
     ensures { result ≡ low_half n }
 {
@@ -112,7 +112,7 @@ pub fn sh_result(op: ShiftOp, a: u64, amount: u8) -> u64
 }
 
 /// 20 bits in the place of bits 12 to 31, with the sign in the bits above.
-#[tactic(auto, unfolding(riscv_isa::specs::Results::upper))]
+#[tactic(auto, unfolding(pan_base::specs::Results::upper))]
 fn upper(high: u32) -> u64
     requires { high < 2 ^ 20 }
     ensures { result ≡ upper high }
@@ -149,7 +149,7 @@ pub fn loads(op: LOp) -> Size
 }
 
 /// What a load makes of the number that it reads.
-#[tactic(auto, unfolding(riscv_isa::specs::Results::sign_extended))]
+#[tactic(auto, unfolding(pan_base::specs::Results::sign_extended))]
 pub fn l_result(op: LOp, n: u64) -> u64
     requires { n < 2 ^ (8 * byte_count (loads op)) }
     ensures { result ≡ l_result op n }

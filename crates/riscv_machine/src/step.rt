@@ -1,22 +1,13 @@
 //! One step.
 
 ghost use Rattle.std.specs.Prelude.{◌≡◌, ◌+◌, ◌<◌, ◌^◌, IfSome};
-ghost use Rattle.riscv_isa.specs.Decoded.{decoded};
 ghost use Rattle.riscv_isa.specs.Table.{InRange};
-ghost use Rattle.riscv_machine.specs.View.{IsUnrefused};
+ghost use Rattle.riscv_machine.specs.View.{IsUnrefused, IsKeptAtEnd};
 
 use crate::machine::{Machine, MachineEnd, Phase};
 use crate::memory::read_word;
 use crate::results::{i_result, plus, r_result, sh_result, stores, u_result};
 use riscv_isa::{Instr, decode};
-
-/// The instruction of a word.
-fn instruction_of(word: u32) -> Option<Instr>
-    ensures value { result ≡ decoded word }
-    ensures range { IfSome result InRange }
-{
-    decode(word)
-}
 
 impl Machine {
     ghost use Rattle.riscv_isa.specs.Step.{fetched, decoded_some, act, step};
@@ -45,7 +36,7 @@ impl Machine {
         ensures pc { IfSome result (λ _. self.now.pc + 4 < 2 ^ 64) }
     {
         match self.fetch() {
-            Some(word) => instruction_of(word),
+            Some(word) => decode(word),
             None => None,
         }
     }
@@ -58,6 +49,7 @@ impl Machine {
         ensures config { config_of self.new ≡ act instr (state_of self.old) }
         ensures size { HasSize self.old self.new }
         ensures unrefused { IsUnrefused self.new.phase }
+        ensures kept { IsKeptAtEnd self.new.phase (state_of self.old) (state_of self.new) }
     {
         match instr {
             Instr::R { op, rd, rs1, rs2 } => {
@@ -95,6 +87,7 @@ impl Machine {
         ensures config { config_of self.new ≡ step (state_of self.old) }
         ensures size { HasSize self.old self.new }
         ensures unrefused { IsUnrefused self.new.phase }
+        ensures kept { IsKeptAtEnd self.new.phase (state_of self.old) (state_of self.new) }
     {
         match self.next_instruction() {
             Some(instr) => self.act(instr),

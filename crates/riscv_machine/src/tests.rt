@@ -1,4 +1,4 @@
-//! Known programs, and what the machine does with them.
+//! A known program, and what the machine does with it.
 
 use crate::machine::Machine;
 use image_file::{Image, read_image};
@@ -20,31 +20,6 @@ const STORES_5: [u32; 8] = [
     0x0000_0073,
 ];
 
-/// LUI x10, 0x10000; ADDI x11, x0, 2; ADDI x12, x10, 8; ADDI x13, x0, 4; ADDI x14, x0, 0; ADDI x17, x0, 1; ECALL;
-/// LW x11, 8(x10); ADDI x10, x0, 0; ADDI x17, x0, 0; ECALL.
-const CALLS_F: [u32; 11] = [
-    0x1000_0537,
-    0x0020_0593,
-    0x0085_0613,
-    0x0040_0693,
-    0x0000_0713,
-    0x0010_0893,
-    0x0000_0073,
-    0x0085_2583,
-    0x0000_0513,
-    0x0000_0893,
-    0x0000_0073,
-];
-
-/// A code, and what an advance of at most 10 steps does with it: ECALL; JAL x0, 0; a word that stands for no
-/// instruction; nothing.
-const ADVANCES: [(&[u32], u64, Pause); 4] = [
-    (&[0x0000_0073], 1, Pause::Ended(End::Exit(0))),
-    (&[0x0000_006f], 10, Pause::Spent),
-    (&[0x0000_0000], 1, Pause::Ended(End::Fault)),
-    (&[], 1, Pause::Ended(End::Fault)),
-];
-
 /// The local memory of the machines here.
 const MEMORY: [u8; 16] = [9, 8, 7, 6, 5, 4, 3, 2, 1, 1, 1, 1, 0, 0, 0, 0];
 
@@ -64,16 +39,6 @@ fn image_of(alloc: Global, code: &[u32]) -> Result<Image, Fail> {
 /// A machine with this code and 16 bytes of stack.
 fn machine_of(alloc: Global, code: &[u32]) -> Result<Machine, Fail> {
     Ok(Machine::boot(alloc, image_of(alloc, code)?, &MEMORY, 16)?)
-}
-
-#[test]
-fn runs_to_an_end(rt: HostRuntime) -> Result<(), Fail> {
-    for (code, used, pause) in ADVANCES {
-        let mut machine = machine_of(rt.alloc(), code)?;
-        assert_eq!(rt; machine.advance(10)?, Advance { used, pause });
-        assert!(rt; machine.request().is_none());
-    }
-    Ok(())
 }
 
 #[test]
@@ -100,36 +65,5 @@ fn asks_and_goes_on(rt: HostRuntime) -> Result<(), Fail> {
         (machine.pc(), machine.register(5)),
         (0x1_0000_001c, 0x4000_0000)
     );
-    Ok(())
-}
-
-#[test]
-fn calls_a_foreign_function(rt: HostRuntime) -> Result<(), Fail> {
-    // the bytes that come for the array, and what is left to do: a load of them with the sign, and the end
-    let replies: [(&[u8], u64, End); 2] = [
-        (&[1, 2, 3, 0x80], 4, End::Exit(0xffff_ffff_8003_0201)),
-        (&[1, 2, 3], 0, End::Stopped),
-    ];
-    for (reply, used, end) in replies {
-        let mut machine = machine_of(rt.alloc(), &CALLS_F)?;
-        assert_eq!(rt; machine.advance(10)?.used, 7);
-        match machine.request() {
-            Some(
-                Request::Foreign {
-                    number,
-                    name,
-                    conf,
-                    array,
-                },
-            ) => {
-                assert_eq!(rt; (number, name), (0, b"f".as_slice()));
-                assert_eq!(rt; (conf, array), ([9, 8].as_slice(), [1, 1, 1, 1].as_slice()));
-            }
-            _ => assert!(rt; false),
-        }
-        machine.answer(Reply::Bytes(reply));
-        let pause = Pause::Ended(end);
-        assert_eq!(rt; machine.advance(10)?, Advance { used, pause });
-    }
     Ok(())
 }

@@ -2,11 +2,10 @@
 use Rattle.std.proofs.Common.{◌≡◌, ◌≢◌, ◌+◌, ◌≤◌, suc, List, [], ◌∷◌, ◌++◌, length, Bool, true, false, refl, sym, ap, ◌∙◌, subst, append_assoc, arith, length-append}
 use Rattle.std.proofs.lemmas.List.{append-nil, append_cancel_left}
 use Rattle.pan_base.specs.Events.{Asked, Replied, Event, Ending, Exit, Uncaught, Stopped, Asks, Spent, Stack, Fault, Fails, Behaviour, IsPrefix, fits}
-use Rattle.pan_port.specs.Device.{Given, Gave, Silent}
-use Rattle.pan_port.specs.Drive.{Gives, replies_of, Answered, Closes, AreGiven}
+use Rattle.pan_port.specs.Device.{Gives, Given, Gave, Silent}
+use Rattle.pan_port.specs.Drive.{replies_of, Answered, Closes, AreGiven}
 use Rattle.pan_tree.specs.GoesOn.{AnsweredBy}
-use Rattle.pan_agree.proofs.Longer.{prefix_refl}
-use Rattle.script_agreement.proofs.Runs.{Left, IsRun}
+use Rattle.pan_tree.specs.InOrder.{Left, TakesInOrder}
 use Rattle.script_agreement.proofs.MachineOrder.{same_request}
 
 -- a device that has one answer to each request, and one next state
@@ -60,7 +59,7 @@ module _ {D : Type 0} (gives : Gives D) where
   last_within Fault last left mid new c l = let a : length last ≡ 0 = ap length c.0 in omega (arith, a)
   last_within Fails last left mid new c l = let a : length last ≡ 0 = ap length c.0 in omega (arith, a)
 
-  module _ (start new : D) (run : List Replied → Behaviour) (is : IsRun run) (front : List Replied) (r : Replied) (rest : List Replied) (given : AreGiven gives start (run (front ++ r ∷ rest)) (front ++ r ∷ rest) new) where
+  module _ (start new : D) (run : List Replied → Behaviour) (is : TakesInOrder run) (front : List Replied) (r : Replied) (rest : List Replied) (given : AreGiven gives start (run (front ++ r ∷ rest)) (front ++ r ∷ rest) new) where
     -- the run with fewer replies
     abbrev part : Behaviour
     part = run front
@@ -103,7 +102,7 @@ module _ {D : Type 0} (gives : Gives D) where
         let tail : r ∷ rest ≡ g.last = append_cancel_left front (r ∷ rest) g.last (g.all ∙ ap (λ l. l ++ g.last) (sym (all_used q asks))) in
         let same : c.0 ≡ r = first_reply g.last c.0 tail c.1 in (
           record { request = q; mid = g.mid; next = new; asks = asks; answered = g.answered; given = subst (λ x. gives g.mid q (Gave x) new) same c.3 },
-          subst (λ (b : Behaviour). IsPrefix part.events b.events) (sym h) (prefix_refl part.events),
+          subst (λ (b : Behaviour). IsPrefix part.events b.events) (sym h) (record { rest = []; all = sym (append-nil part.events) }),
         )
 
     cut_at : (e : Ending) → part.ending ≡ e → Wants start part front r × IsPrefix part.events whole.events
@@ -147,7 +146,7 @@ module _ {D : Type 0} (gives : Gives D) (determined : IsDetermined gives) where
       let e : Gave r ≡ Silent = (determined.one g.mid a.request _ _ a.next new h c.1).0 in
       cc
 
-  module _ (start : D) (run : List Replied → Behaviour) (is : IsRun run) where
+  module _ (start : D) (run : List Replied → Behaviour) (is : TakesInOrder run) where
     -- the run is given these replies
     abbrev pub IsGivenTo : List Replied → D → Type 0
     IsGivenTo replies new = AreGiven gives start (run replies) replies new

@@ -5,11 +5,10 @@ use Rattle.std.specs.Option.{ok_or, option_map}
 use Rattle.std.specs.Str.{bytes_eq}
 use Rattle.std.proofs.lemmas.Bool.{cases_lt}
 use Rattle.std.proofs.lemmas.Bool.Decides.{nat_tests}
-use Rattle.std.proofs.lemmas.List.{get_or_append_left, get_or-append_right, get_or-replicate, get_or_past, length-replicate, length-take-le, length-take}
+use Rattle.std.proofs.lemmas.List.{get_or-replicate, get_or_past, length-replicate, length-take-le, length-take}
 use Rattle.pan_base.specs.Spelling.{is_hex_digit, digit_value}
 use Rattle.pan_base.specs.Words.{IsBytes}
-use Rattle.riscv_isa.specs.Machine.{IsLawfulMemory}
-use Rattle.image_file.proofs.Numbers.{IsBytes-drop, IsBytes-take}
+use Rattle.pan_base.specs.Lawful.{IsLawfulMemory}
 use Rattle.device_script.specs.declared.error.Cause.{Cause}
 use Rattle.device_script.specs.declared.error.Cause.TheVariants as cause
 use Rattle.device_script.specs.declared.line.Piece.{Piece}
@@ -21,6 +20,12 @@ use Rattle.device_script.specs.Memory.{overwritten, filled}
 use Rattle.device_script.specs.Saying.{◌>>=◌, number_said, place_said, numbers_said, name_said, effect_said, bytes_of_digits, hex_said, is_piece, memory_said, register_said, queue_said, counter_said, collector_said, foreign_said, is_comment, said}
 use Rattle.device_script.specs.Script.{Content, Refusal, is_taken, with_line, or_refused, with_lines, script_of_file}
 
+-- what the crate below says of rows of bytes
+pub record RowsOfBytes : Type 0 where
+  pub front : (n : ℕ) (bytes : List ℕ) → IsBytes bytes → IsBytes (take n bytes)
+  pub rest : (n : ℕ) (bytes : List ℕ) → IsBytes bytes → IsBytes (drop n bytes)
+  pub joined : (first second : List ℕ) → IsBytes first → IsBytes second → IsBytes (first ++ second)
+
 -- ---- bytes
 
 bytes_none : IsBytes []
@@ -29,13 +34,6 @@ bytes_none i = omega arith
 bytes_one_more : (b : ℕ) (bytes : List ℕ) → b < 256 → IsBytes bytes → IsBytes (b ∷ bytes)
 bytes_one_more b bytes h k zero = h
 bytes_one_more b bytes h k (suc i) = k i
-
-bytes_append : (xs ys : List ℕ) → IsBytes xs → IsBytes ys → IsBytes (xs ++ ys)
-bytes_append xs ys h k i =
-    elim (cases_lt i (length xs)) [
-      | inl lt ↦ rw (get_or_append_left xs ys 0 i lt) (h i)
-      | inr le ↦ rw (get_or-append_right xs ys (length xs) i 0 refl le) (k (i - length xs))
-    ]
 
 bytes_zero : (n : ℕ) → IsBytes (replicate n 0)
 bytes_zero n i =
@@ -46,9 +44,9 @@ bytes_zero n i =
 
 -- ---- pieces over memory
 
-overwritten_bytes : (memory : List ℕ) (offset : ℕ) (bytes : List ℕ) → IsBytes memory → IsBytes bytes → IsBytes (overwritten memory offset bytes)
-overwritten_bytes memory offset bytes h k =
-    IsBytes-take (length memory) _ (bytes_append _ _ (bytes_append _ bytes (IsBytes-take offset memory h) k) (IsBytes-drop (offset + length bytes) memory h))
+overwritten_bytes : RowsOfBytes → (memory : List ℕ) (offset : ℕ) (bytes : List ℕ) → IsBytes memory → IsBytes bytes → IsBytes (overwritten memory offset bytes)
+overwritten_bytes rows memory offset bytes h k =
+    rows.front (length memory) _ (rows.joined _ _ (rows.joined _ bytes (rows.front offset memory h) k) (rows.rest (offset + length bytes) memory h))
 
 long_enough : (front bytes back : List ℕ) (offset size : ℕ) → length front ≡ min offset size → length back ≡ size - (offset + length bytes) → size ≤ length (front ++ bytes ++ back)
 long_enough front bytes back offset size f b =
@@ -66,9 +64,9 @@ abbrev AreBytes : List Piece → Type 0
 AreBytes [] = Unit {0}
 AreBytes (p ∷ ps) = IsBytes p.bytes × AreBytes ps
 
-fold_bytes : (pieces : List Piece) (memory : List ℕ) → AreBytes pieces → IsBytes memory → IsBytes (fold (λ memory piece. overwritten memory piece.offset piece.bytes) memory pieces)
-fold_bytes [] memory all h = h
-fold_bytes (p ∷ ps) memory all h = fold_bytes ps (overwritten memory p.offset p.bytes) all.1 (overwritten_bytes memory p.offset p.bytes h all.0)
+fold_bytes : RowsOfBytes → (pieces : List Piece) (memory : List ℕ) → AreBytes pieces → IsBytes memory → IsBytes (fold (λ memory piece. overwritten memory piece.offset piece.bytes) memory pieces)
+fold_bytes rows [] memory all h = h
+fold_bytes rows (p ∷ ps) memory all h = fold_bytes rows ps (overwritten memory p.offset p.bytes) all.1 (overwritten_bytes rows memory p.offset p.bytes h all.0)
 
 fold_length : (pieces : List Piece) (memory : List ℕ) → length (fold (λ memory piece. overwritten memory piece.offset piece.bytes) memory pieces) ≡ length memory
 fold_length [] memory = refl
@@ -201,12 +199,12 @@ lines_keep : (n : ℕ) (s : Content) (ls : List (List ℕ)) → AreBytes s.piece
 lines_keep n s [] all = all
 lines_keep n s (l ∷ ls) all = refused_keeps n (with_line s (said (words l))) (λ t. with_lines (n + 1) t ls) (line_keeps s (said (words l)) all (said_piece (words l))) (λ t h. lines_keep (n + 1) t ls h)
 
-pub lawful_memory : (file : List ℕ) (script : Content) (local : ℕ) → script_of_file file ≡ Ok script → local % 8 ≡ 0 → local ≤ 67108864 → IsLawfulMemory (filled script.pieces local)
-lawful_memory file script local is whole most =
+pub lawful_memory : RowsOfBytes → (file : List ℕ) (script : Content) (local : ℕ) → script_of_file file ≡ Ok script → local % 8 ≡ 0 → local ≤ 67108864 → IsLawfulMemory (filled script.pieces local)
+lawful_memory rows file script local is whole most =
     let all : AreBytes script.pieces = subst KeepsBytes is (lines_keep 1 (record { pieces = []; rules = [] }) (lines file) tt) in
     let same : length (filled script.pieces local) ≡ local = fold_length script.pieces (replicate local 0) ∙ length-replicate {A = ℕ} local 0 in
     record {
       whole = ap (λ n. n % 8) same ∙ whole;
       most = omega (arith, same, most);
-      bytes = fold_bytes script.pieces (replicate local 0) all (bytes_zero local);
+      bytes = fold_bytes rows script.pieces (replicate local 0) all (bytes_zero local);
     }

@@ -10,12 +10,15 @@ use Rattle.riscv_isa.specs.declared.place.Place.{Place}
 use Rattle.riscv_isa.specs.declared.place.Place.TheVariants as place
 use Rattle.riscv_isa.specs.declared.place.Region.TheVariants as region
 use Rattle.riscv_isa.specs.Regions.{is_in, place_of}
-use Rattle.riscv_isa.specs.Results.{loads, stores, plus}
+use Rattle.pan_base.specs.Results.{loads, stores, plus}
 use Rattle.pan_base.specs.Words.{compare}
-use Rattle.riscv_isa.specs.Step.{State, Config, Runs, Waits, Over, act, act_some, decoded_some, ended, fetched, foreign, jump, linked, load, reg, request_of, resumed, step, store}
-use Rattle.riscv_isa.specs.Machine.{taken, continue, run, booted, machine}
+use Rattle.riscv_isa.specs.Step.{State, Config, act, act_some, decoded_some, ended, fetched, foreign, jump, linked, load, reg, request_of, resumed, step, store}
+use Rattle.riscv_isa.specs.Running as running
+use Rattle.riscv_isa.specs.Running.{Runs, Waits, Over, taken}
+use Rattle.riscv_isa.specs.Image.{ImageParts}
+use Rattle.riscv_isa.specs.Machine.{continue, run, booted, machine}
 use Rattle.pan_tree.specs.GoesOn.{AnsweredBy}
-use Rattle.script_agreement.proofs.Runs.{Left, Uses, IsRun}
+use Rattle.pan_tree.specs.InOrder.{Left, Uses, TakesInOrder}
 
 -- ---- a step ends the machine in no way that a reply would
 
@@ -109,7 +112,7 @@ uses_on (Waits p s) f own u [] = record { left = []; all = refl; ends = refl }
 uses_on (Waits p s) f own u (r ∷ replies) = uses_taken (fits (request_of p s) r) (request_of p s) r replies _ (u (resumed p s r) replies)
 
 uses : (k : ℕ) (s : State) (replies : List Replied) → Uses replies (run k s replies)
-unfolding run
+unfolding running.run
 uses zero s replies = record { left = replies; all = refl; ends = tt }
 uses (suc k) s replies = uses_on (step s) (run k) (own_step s) (λ t rs. uses k t rs) replies
 
@@ -130,7 +133,7 @@ stays_on (Waits p s) f h [] later never = absurd (never (request_of p s) refl)
 stays_on (Waits p s) f h (r ∷ replies) later never = taken_stays (fits (request_of p s) r) (request_of p s) r _ _ (h (resumed p s r) replies later) never
 
 stays : (k : ℕ) (s : State) (replies later : List Replied) → NeverAsks (run k s replies) → run k s (replies ++ later) ≡ run k s replies
-unfolding run
+unfolding running.run
 stays zero s replies later never = refl
 stays (suc k) s replies later never = stays_on (step s) (run k) (λ t rs more h. stays k t rs more h) replies later never
 
@@ -176,13 +179,13 @@ answered_on (Waits p s) f own h [] r later = λ q is.
 answered_on (Waits p s) f own h (r' ∷ replies) r later = answered_taken (fits (request_of p s) r') (request_of p s) r' r _ _ (h (resumed p s r') replies r later)
 
 answered : (k : ℕ) (s : State) (replies : List Replied) (r : Replied) (later : List Replied) → AnsweredNext r (run k s replies) (run k s (replies ++ r ∷ later))
-unfolding run
+unfolding running.run
 answered zero s replies r later = λ q is. absurd (cc)
 answered (suc k) s replies r later = answered_on (step s) (run k) (own_step s) (λ t rs x more. answered k t rs x more) replies r later
 
-pub machine_runs : (code : List ℕ) (names : List (List ℕ)) (memory : List ℕ) (stack k : ℕ) → IsRun (λ replies. machine code names memory stack replies k)
-machine_runs code names memory stack k = record {
-  uses = λ replies. uses k (booted code names memory stack) replies;
-  stays = λ replies later never. stays k (booted code names memory stack) replies later never;
-  answered = λ replies r later q is. answered k (booted code names memory stack) replies r later q is;
+pub machine_in_order : (parts : ImageParts) (memory : List ℕ) (stack k : ℕ) → TakesInOrder (λ replies. machine parts memory stack replies k)
+machine_in_order parts memory stack k = record {
+  uses = λ replies. uses k (booted parts memory stack) replies;
+  stays = λ replies later never. stays k (booted parts memory stack) replies later never;
+  answered = λ replies r later q is. answered k (booted parts memory stack) replies r later q is;
 }

@@ -1,19 +1,17 @@
 -- The machine does under a device what the source does, as far as both go. The forward direction alone is wanted for it.
-use Rattle.std.proofs.Common.{◌≡◌, ◌≢◌, ℕ, ◌+◌, ◌-◌, ◌≤◌, ◌<◌, List, [], ◌∷◌, ◌++◌, false, refl, sym, ap, ◌∙◌, subst, append_assoc, arith, inl, inr}
+use Rattle.std.proofs.Common.{◌≡◌, ◌≢◌, ℕ, ◌+◌, ◌-◌, ◌≤◌, ◌<◌, List, [], ◌∷◌, ◌++◌, false, refl, sym, ap, ◌∙◌, subst, arith, inl, inr}
 use Rattle.std.specs.Prelude.{◌⊎◌, IsTrue}
+use Rattle.std.proofs.lemmas.List.{append-nil}
 use Rattle.std.proofs.lemmas.Bool.{false≢true}
 use Rattle.pan_base.specs.Events.{Asked, Replied, Event, Ending, Asks, Spent, Stack, Fails, Behaviour, IsPrefix}
 use Rattle.pan_control.specs.Seen.{Seen}
-use Rattle.pan_port.specs.Drive.{Gives, AreGiven}
+use Rattle.pan_port.specs.Device.{Gives}
+use Rattle.pan_port.specs.Drive.{AreGiven}
 use Rattle.pan_agree.specs.Agree.{Overflows}
-use Rattle.pan_agree.specs.Laws.{IsSteady}
-use Rattle.pan_agree.proofs.Longer.{prefix_refl}
+use Rattle.riscv_isa.specs.Running.{IsSteady}
 use Rattle.script_agreement.specs.Given.{is_whole, Concur}
-use Rattle.script_agreement.proofs.Runs.{IsRun}
+use Rattle.pan_tree.specs.InOrder.{TakesInOrder}
 use Rattle.script_agreement.proofs.Cut.{IsDetermined, Stand, Same, Shorter, Longer, stand, Wants, cut, wants_one, wants_none}
-
-prefix_trans : (xs ys zs : List Event) → IsPrefix xs ys → IsPrefix ys zs → IsPrefix xs zs
-prefix_trans xs ys zs p q = record { rest = p.rest ++ q.rest; all = q.all ∙ ap (λ t. t ++ q.rest) p.all ∙ append_assoc xs p.rest q.rest }
 
 -- ---- on one list of replies
 
@@ -50,13 +48,17 @@ module _ (machine : ℕ → Behaviour) (steady : IsSteady machine) where
 spent_stack : (e : Ending) → e ≡ Spent → e ≡ Stack → ⊥
 spent_stack e a b = cc
 
-meets : (stack : ℕ) (s : Seen) (a b : Behaviour) → Near a b → (b ≡ s.behaviour) ⊎ Overflows stack s b → Meets a s.behaviour
-meets stack s a b (Before e f) (inl is) = Behind e (subst (λ (b : Behaviour). IsPrefix a.events b.events) is f)
-meets stack s a b (There e) (inl is) = Equal (e ∙ is)
-meets stack s a b (Past e f) (inl is) = Ahead (sym (ap (λ (b : Behaviour). b.ending) is) ∙ e) (subst (λ (b : Behaviour). IsPrefix b.events a.events) is f)
-meets stack s a b (Before e f) (inr o) = Behind e (prefix_trans a.events b.events _ f o.front)
-meets stack s a b (There e) (inr o) = Full (ap (λ (b : Behaviour). b.ending) e ∙ o.stack_end) (subst (λ (b : Behaviour). IsPrefix b.events ((s.behaviour).events)) (sym e) o.front)
-meets stack s a b (Past e f) (inr o) = absurd (spent_stack b.ending e o.stack_end)
+-- what the crate below says of prefixes
+abbrev IsTransitive : Type 0
+IsTransitive = (xs ys zs : List Event) → IsPrefix xs ys → IsPrefix ys zs → IsPrefix xs zs
+
+meets : IsTransitive → (stack : ℕ) (s : Seen) (a b : Behaviour) → Near a b → (b ≡ s.behaviour) ⊎ Overflows stack s b → Meets a s.behaviour
+meets prefix_trans stack s a b (Before e f) (inl is) = Behind e (subst (λ (b : Behaviour). IsPrefix a.events b.events) is f)
+meets prefix_trans stack s a b (There e) (inl is) = Equal (e ∙ is)
+meets prefix_trans stack s a b (Past e f) (inl is) = Ahead (sym (ap (λ (b : Behaviour). b.ending) is) ∙ e) (subst (λ (b : Behaviour). IsPrefix b.events a.events) is f)
+meets prefix_trans stack s a b (Before e f) (inr o) = Behind e (prefix_trans a.events b.events _ f o.front)
+meets prefix_trans stack s a b (There e) (inr o) = Full (ap (λ (b : Behaviour). b.ending) e ∙ o.stack_end) (subst (λ (b : Behaviour). IsPrefix b.events ((s.behaviour).events)) (sym e) o.front)
+meets prefix_trans stack s a b (Past e f) (inr o) = absurd (spent_stack b.ending e o.stack_end)
 
 -- two runs that ask meet in one alone
 asks_equal : (a c : Behaviour) (q r : Asked) → a.ending ≡ Asks q → c.ending ≡ Asks r → Meets a c → a ≡ c
@@ -72,12 +74,12 @@ no_whole e x is none whole = false≢true (sym none ∙ ap is_whole (sym is) ∙
 
 concur_at : (a c : Behaviour) → Meets a c → Concur c a
 concur_at a c (Behind e p) = record { fronts = inr p; same = λ _ whole. absurd (no_whole a.ending Spent e refl whole) }
-concur_at a c (Equal e) = record { fronts = inl (subst (λ (b : Behaviour). IsPrefix c.events b.events) (sym e) (prefix_refl c.events)); same = λ _ _. sym e }
+concur_at a c (Equal e) = record { fronts = inl (subst (λ (b : Behaviour). IsPrefix c.events b.events) (sym e) (record { rest = []; all = sym (append-nil c.events) })); same = λ _ _. sym e }
 concur_at a c (Ahead e p) = record { fronts = inl p; same = λ whole _. absurd (no_whole c.ending Spent e refl whole) }
 concur_at a c (Full e p) = record { fronts = inr p; same = λ _ whole. absurd (no_whole a.ending Stack e refl whole) }
 
-module _ {D : Type 0} (gives : Gives D) (determined : IsDetermined gives) (start : D) (stack k : ℕ) (source : List Replied → Seen) (machine : List Replied → ℕ → Behaviour)
-    (source_is : IsRun (λ replies. (source replies).behaviour)) (machine_is : IsRun (λ replies. machine replies k)) (steady : (replies : List Replied) → IsSteady (machine replies))
+module _ (prefix_trans : IsTransitive) {D : Type 0} (gives : Gives D) (determined : IsDetermined gives) (start : D) (stack k : ℕ) (source : List Replied → Seen) (machine : List Replied → ℕ → Behaviour)
+    (source_is : TakesInOrder (λ replies. (source replies).behaviour)) (machine_is : TakesInOrder (λ replies. machine replies k)) (steady : (replies : List Replied) → IsSteady (machine replies))
     (forward : (replies : List Replied) → ((source replies).behaviour).ending ≢ Fails → (l : ℕ) × ((machine replies l ≡ (source replies).behaviour) ⊎ Overflows stack (source replies) (machine replies l))) where
   abbrev meant : List Replied → Behaviour
   meant replies = (source replies).behaviour
@@ -86,7 +88,7 @@ module _ {D : Type 0} (gives : Gives D) (determined : IsDetermined gives) (start
   ran replies = machine replies k
 
   meet : (replies : List Replied) → (meant replies).ending ≢ Fails → Meets (ran replies) (meant replies)
-  meet replies kept = let f = forward replies kept in meets stack (source replies) (ran replies) (machine replies f.0) (near (machine replies) (steady replies) k f.0) f.1
+  meet replies kept = let f = forward replies kept in meets prefix_trans stack (source replies) (ran replies) (machine replies f.0) (near (machine replies) (steady replies) k f.0) f.1
 
   asks_no_fail : (e : Ending) (q : Asked) → e ≡ Asks q → e ≢ Fails
   asks_no_fail e q asks fails = cc

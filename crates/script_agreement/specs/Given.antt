@@ -1,17 +1,6 @@
--- Runs under a script, and how a source and its image stand to each other there.
-use Rattle.std.specs.Prelude.{◌≡◌, ◌⊎◌, List, Bool, true, false, IsTrue}
-use Rattle.pan_base.specs.Events.{Replied, Ending, Exit, Uncaught, Stopped, Asks, Spent, Stack, Fault, Fails, Behaviour, IsPrefix}
-use Rattle.pan_port.specs.Drive.{AreGiven}
-use Rattle.device_script.specs.Script.{Content}
-use Rattle.device_script.specs.Device.{DeviceState, Steps}
-
--- the device of a script, before its first request
-abbrev pub device : Content → DeviceState
-device script = record { rules = script.rules; stops = 0; silences = 0 }
-
--- the replies are those that the script gives to the requests of this run
-abbrev pub IsGiven : Content → Behaviour → List Replied → Type 0
-IsGiven script run replies = (last : DeviceState) × AreGiven Steps (device script) run replies last
+-- How a source and its image stand to each other under one script.
+use Rattle.std.specs.Prelude.{◌≡◌, ◌⊎◌, Bool, true, false, IsTrue}
+use Rattle.pan_base.specs.Events.{Ending, Exit, Uncaught, Stopped, Asks, Spent, Stack, Fault, Fails, Behaviour, IsPrefix}
 
 -- the run wanted no fuel, no steps and no stack
 abbrev pub is_whole : Ending → Bool

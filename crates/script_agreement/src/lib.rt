@@ -2,5 +2,7 @@
 #![tactic(auto)]
 
 mod laws;
+mod refuted;
 
 pub use laws::{agrees_under_script, fills_lawful_memory, given_once};
+pub use refuted::refuses_other_runs;

@@ -13,7 +13,6 @@ use Rattle.pan_tree.specs.declared.program.Function.{Function}
 use Rattle.pan_tree.specs.declared.program.Program.{Program}
 use Rattle.pan_tree.specs.Check.{function_weight}
 use Rattle.straight_form.specs.Form.{IsSum, IsStore, IsBody, IsStraight}
-use Rattle.straight_form.proofs.Forms.{same_return, same_store}
 use Rattle.straight_compiler.proofs.Weights.{few}
 use Rattle.straight_compiler.specs.Performs.{IsPlain}
 
@@ -34,16 +33,23 @@ plain_body stmts (ss, last, is, stores, return) = subst (All Plain) (sym is) (Al
 return_no_store : (x a e : Spanned ExprKind) (n : Size) → stmt.Return x ≡ stmt.SharedStore n a e → ⊥
 return_no_store x a e n is = cc
 
-pub plain_return : (k : StmtKind) (x : Spanned ExprKind) → k ≡ stmt.Return x → IsPlain k → IsSum x.kind
-plain_return k x is (inl (a, e, at, p, q)) = absurd (return_no_store x a e B8 (sym is ∙ at))
-plain_return k x is (inr (e, at, p)) = subst (λ (y : Spanned ExprKind). IsSum y.kind) (same_return e x (sym at ∙ is)) p
+-- the parts of a return and of a store are known from it, as the crate of the form says
+abbrev OneReturn : Type 0
+OneReturn = (x y : Spanned ExprKind) → stmt.Return x ≡ stmt.Return y → x ≡ y
+
+abbrev OneStore : Type 0
+OneStore = (m n : Size) (a b x y : Spanned ExprKind) → stmt.SharedStore m a x ≡ stmt.SharedStore n b y → (m ≡ n) × (a ≡ b) × (x ≡ y)
+
+pub plain_return : OneReturn → (k : StmtKind) (x : Spanned ExprKind) → k ≡ stmt.Return x → IsPlain k → IsSum x.kind
+plain_return same_return k x is (inl (a, e, at, p, q)) = absurd (return_no_store x a e B8 (sym is ∙ at))
+plain_return same_return k x is (inr (e, at, p)) = subst (λ (y : Spanned ExprKind). IsSum y.kind) (same_return e x (sym at ∙ is)) p
 
 -- what a store of the form stores: 64 bits, and sums
-pub plain_store : (k : StmtKind) (n : Size) (a x : Spanned ExprKind) → k ≡ stmt.SharedStore n a x → IsPlain k → (n ≡ B8) × IsSum a.kind × IsSum x.kind
-plain_store k n a x is (inl (b, e, at, p, q)) =
+pub plain_store : OneStore → (k : StmtKind) (n : Size) (a x : Spanned ExprKind) → k ≡ stmt.SharedStore n a x → IsPlain k → (n ≡ B8) × IsSum a.kind × IsSum x.kind
+plain_store same_store k n a x is (inl (b, e, at, p, q)) =
     let same = same_store B8 n b a e x (sym at ∙ is) in
     (sym same.0, subst (λ (y : Spanned ExprKind). IsSum y.kind) same.1 p, subst (λ (y : Spanned ExprKind). IsSum y.kind) same.2 q)
-plain_store k n a x is (inr (e, at, p)) = absurd (return_no_store e a x n (sym at ∙ is))
+plain_store same_store k n a x is (inr (e, at, p)) = absurd (return_no_store e a x n (sym at ∙ is))
 
 -- the one function of a straight-line program, with the statements that are read from it
 pub record IsMain (program : Program) (main : Function) (stmts : List (Spanned StmtKind)) : Type 0 where

@@ -22,7 +22,6 @@ module _ (rd : ℕ) (is_real : 0 < rd) (is_register : rd < 32) where
   not_zero = grind (arith, nat_tests)
 
   written : (s : State) (n : ℕ) → with_reg s rd n ≡ record s { registers = set s.registers rd n }
-  unfolding with_reg
   written s n = rw not_zero refl
 
   pub reads_back : (t : State) (registers : List ℕ) (n : ℕ) → length registers ≡ 32 → t.registers ≡ set registers rd n → reg t rd ≡ n

@@ -1,3 +1,3 @@
 pub mod Follow
-pub mod Spells
+pub mod Alone
 pub mod Performs

@@ -9,9 +9,10 @@ ghost use Rattle.straight_compiler.specs.Performs.{IsPlain, GrowsBy, PerformsAll
 use crate::constants::push_constant;
 use crate::evaluating::evaluate;
 use pan_base::{List, NoMemory, SOp};
-use pan_tree::{Expr, Stmt, StmtKind};
+use pan_tree::{Expr, Stmt, StmtKind, statements_mean_by_parts};
 use riscv_isa::Instr;
 use std::alloc::Global;
+use straight_form::parts_are_known;
 
 /// t0, with the address of a store.
 const ADDRESS: u8 = 5;
@@ -31,6 +32,7 @@ fn push_store(code: &mut List<Instr>, address: &Expr, value: &Expr) -> Result<()
     ensures { OnOk result
         (GrowsBy (StmtKind.SharedStore B8 address.now value.now) code.old code.new) }
 {
+    statements_mean_by_parts();
     push_constant(code, ADDRESS, evaluate(address))?;
     push_constant(code, VALUE, evaluate(value))?;
     code.push(Instr::S {
@@ -47,6 +49,7 @@ fn push_return(code: &mut List<Instr>, value: &Expr) -> Result<(), NoMemory>
     requires { IsSum value.now.kind }
     ensures { OnOk result (GrowsBy (StmtKind.Return value.now) code.old code.new) }
 {
+    statements_mean_by_parts();
     push_constant(code, RETURNED, evaluate(value))?;
     push_constant(code, END, 0)?;
     push_constant(code, CALL, 0)?;
@@ -59,6 +62,7 @@ fn push_stmt(code: &mut List<Instr>, stmt: &Stmt) -> Result<(), NoMemory>
     requires { IsPlain stmt.now.kind }
     ensures { OnOk result (GrowsBy stmt.now.kind code.old code.new) }
 {
+    parts_are_known();
     match &stmt.kind {
         StmtKind::Return(value) => push_return(code, value),
         StmtKind::SharedStore(_, address, value) => push_store(code, address, value),

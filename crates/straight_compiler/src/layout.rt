@@ -1,7 +1,8 @@
 //! The image of code that has no names and no bound.
 
-ghost use Rattle.std.specs.Prelude.{[], None, IfOk};
-ghost use Rattle.riscv_isa.specs.Image.{IsLawfulImage, ImageOf};
+ghost use Rattle.std.specs.Prelude.{IfOk};
+ghost use Rattle.riscv_isa.specs.Image.{IsLawfulCode, ImageOf};
+ghost use Rattle.straight_compiler.specs.Alone.{alone};
 
 use image_file::write_image;
 use pan_base::{Blob, List, NoMemory};
@@ -10,8 +11,8 @@ use std::alloc::Global;
 
 /// The image of this code.
 pub fn image_of(alloc: Global, code: Vec<u8>) -> Result<Blob, NoMemory>
-    requires { IsLawfulImage code.items [] None }
-    ensures { IfOk result (λ image. ImageOf image code.items [] None) }
+    requires { IsLawfulCode code.items }
+    ensures { IfOk result (λ image. ImageOf image (alone code.items)) }
 {
     let code = Code {
         bytes: Blob::from_vec(code),

@@ -6,8 +6,5 @@ mod constants;
 mod evaluating;
 mod generating;
 mod layout;
-#[cfg(test)]
-mod tests;
-mod words;
 
 pub use compiling::compile;

@@ -3,5 +3,7 @@
 #![tactic(auto)]
 
 mod form;
+mod laws;
 
 pub use form::is_straight;
+pub use laws::parts_are_known;

@@ -1,4 +1,4 @@
-use Rattle.std.proofs.Common.{◌≡◌, Err, sym, ap, ◌∙◌, inl, inr, subst}
+use Rattle.std.proofs.Common.{Err, sym, ap, ◌∙◌, inl, inr, subst}
 use Rattle.pan_parser.specs.Answers as parser
 use Rattle.front_end.specs.declared.error.SourceError.{SourceError}
 use Rattle.front_end.proofs.Reasons.{no_error, is_shaped, reasons, handed, accepted_so, first_told}

@@ -1,8 +1,8 @@
 use Rattle.std.proofs.Common.{Err, sym, ap, ◌∙◌, inl, inr, subst}
 use Rattle.straight_form.specs.Form.{IsStraight}
 use Rattle.pan_command.specs.declared.error.BuildError.{BuildError}
-use Rattle.front_end.proofs.Reasons.{handed}
 use Rattle.pan_command.proofs.Reasons.{memory_so, starved_so, refused_first, is_straight, unsupported_only, accepted}
+use Rattle.pan_command.proofs.Results.{handed}
 use Rattle.pan_command.proofs.building.build.Goals as goal
 
 pub returns-in_err-checked-clause-served : goal.returns-in_err-checked-clause-served

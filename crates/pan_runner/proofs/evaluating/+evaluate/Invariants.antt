@@ -1,6 +1,6 @@
 use Rattle.std.proofs.Common.{◌≡◌, ◌+◌, ◌*◌, Some, map, drop}
 use Rattle.pan_runner.specs.Told.{all_told}
-use Rattle.pan_runner.specs.Slots.{chain, values}
+use Rattle.source_resolver.specs.Slots.{chain, values}
 use Rattle.pan_runner.specs.Evaluating.{term}
 use Rattle.pan_runner.proofs.GivingLayers.{behind}
 use Rattle.pan_runner.proofs.evaluating.+evaluate.Given as goal

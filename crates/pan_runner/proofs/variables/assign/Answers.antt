@@ -1,6 +1,6 @@
 use Rattle.std.proofs.Common.{◌∙◌, ap, sym}
 use Rattle.std.proofs.lemmas.List.{map-set}
-use Rattle.pan_runner.specs.Slots.{assigned}
+use Rattle.source_resolver.specs.Slots.{assigned}
 use Rattle.pan_runner.specs.Told.{told, all_told}
 use Rattle.pan_runner.proofs.variables.assign.Goals as goal
 

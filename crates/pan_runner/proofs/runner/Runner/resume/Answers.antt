@@ -2,7 +2,7 @@ use Rattle.std.proofs.Common.{sym, ap, ◌∙◌}
 use Rattle.pan_base.specs.Events.{replied}
 use Rattle.pan_base.specs.declared.events.Reply.{Reply}
 use Rattle.pan_runner.specs.Machine.{Next, Leave, Runs, variables_after, memory_after}
-use Rattle.pan_runner.specs.Slots.{assigned}
+use Rattle.source_resolver.specs.Slots.{assigned}
 use Rattle.pan_runner.specs.Runner.{variables_of, frames_of}
 use Rattle.pan_runner.proofs.ToldLayers.{told_word}
 use Rattle.pan_runner.specs.View.{pending_of}

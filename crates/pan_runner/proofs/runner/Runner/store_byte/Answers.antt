@@ -1,18 +1,22 @@
-use Rattle.std.proofs.Common.{refl, sym, ◌∙◌}
-use Rattle.pan_runner.proofs.Begun.{word_some, word_none, at_next}
+use Rattle.std.proofs.Common.{sym, ◌∙◌}
+use Rattle.pan_runner.proofs.Begun.{given, missing, at_next}
+use Rattle.pan_runner.proofs.Halts.{halted}
 use Rattle.pan_runner.proofs.Equations.{begins_store_byte}
 use Rattle.pan_runner.proofs.runner.Runner.store_byte.Goals as goal
 
-pub returns-in_default-clause-config : goal.returns-in_default-clause-config
-returns-in_default-clause-config c = c.fail.ensures.config ∙ sym (begins_store_byte c.args.self.now c.args.a.now c.args.e.now ∙ word_none _ _ _ c.in_default.is c.in_ok-addr.ensures)
+pub returns-in_err-addr-clause-config : goal.returns-in_err-addr-clause-config
+returns-in_err-addr-clause-config c =
+    halted _ _ _ _ _ _ c.from_residual.ensures.1 (begins_store_byte c.args.self.now c.args.a.now c.args.e.now) c.in_err-addr.ensures
 
-pub returns-in_default-2-clause-config : goal.returns-in_default-2-clause-config
-returns-in_default-2-clause-config c = c.fail-in_default-2.ensures.config ∙ sym (begins_store_byte c.args.self.now c.args.a.now c.args.e.now ∙ word_some _ _ c.in-Some.addr _ c.in-Some.is c.in_ok-addr.ensures ∙ word_none _ _ _ c.in_default-2.is c.in_ok-word.ensures)
+pub returns-in_err-word-clause-config : goal.returns-in_err-word-clause-config
+returns-in_err-word-clause-config c =
+    halted _ _ _ _ _ _ c.from_residual-in_err-word.ensures.1 (begins_store_byte c.args.self.now c.args.a.now c.args.e.now ∙ given _ _ _ c.in_ok-addr.ensures) c.in_err-word.ensures
 
 pub returns-then-not-store_byte-clause-config : goal.returns-then-not-store_byte-clause-config
-returns-then-not-store_byte-clause-config c = c.fail-then-not-store_byte.ensures.config ∙ sym (begins_store_byte c.args.self.now c.args.a.now c.args.e.now ∙ word_some _ _ c.in-Some.addr _ c.in-Some.is c.in_ok-addr.ensures ∙ word_some _ _ c.in-Some-2.word _ c.in-Some-2.is c.in_ok-word.ensures ∙ word_none _ _ _ (c.if-not-store_byte.ensures {u = tt}).refused refl)
+returns-then-not-store_byte-clause-config c =
+    begins_store_byte c.args.self.now c.args.a.now c.args.e.now ∙ given _ _ _ c.in_ok-addr.ensures ∙ given _ _ _ c.in_ok-word.ensures ∙ missing _ _ (c.if-not-store_byte.ensures {u = tt}).refused
 
 pub returns-clause-config : goal.returns-clause-config
 returns-clause-config c =
     at_next _ _ _ _ c.requires
-    ∙ sym (begins_store_byte c.args.self.now c.args.a.now c.args.e.now ∙ word_some _ _ c.in-Some.addr _ c.in-Some.is c.in_ok-addr.ensures ∙ word_some _ _ c.in-Some-2.word _ c.in-Some-2.is c.in_ok-word.ensures ∙ word_some _ _ c.store_byte.new.self _ (c.if-not-store_byte.ensures {u = tt}).stored refl)
+    ∙ sym (begins_store_byte c.args.self.now c.args.a.now c.args.e.now ∙ given _ _ _ c.in_ok-addr.ensures ∙ given _ _ _ c.in_ok-word.ensures ∙ given _ _ _ (c.if-not-store_byte.ensures {u = tt}).stored)

@@ -1,19 +1,22 @@
-use Rattle.std.proofs.Common.{refl, sym, ◌∙◌}
-use Rattle.pan_runner.specs.Told.{told}
-use Rattle.pan_runner.proofs.Begun.{word_some, word_none, seen_some, seen_none, at_next}
+use Rattle.std.proofs.Common.{sym, ◌∙◌}
+use Rattle.pan_runner.proofs.Begun.{given, missing, at_next}
+use Rattle.pan_runner.proofs.Halts.{halted}
 use Rattle.pan_runner.proofs.Equations.{begins_store_words}
 use Rattle.pan_runner.proofs.runner.Runner.store_words.Goals as goal
 
-pub returns-in_default-clause-config : goal.returns-in_default-clause-config
-returns-in_default-clause-config c = c.fail.ensures.config ∙ sym (begins_store_words c.args.self.now c.args.a.now c.args.e.now ∙ word_none _ _ _ c.in_default.is c.in_ok-addr.ensures)
+pub returns-in_err-addr-clause-config : goal.returns-in_err-addr-clause-config
+returns-in_err-addr-clause-config c =
+    halted _ _ _ _ _ _ c.from_residual.ensures.1 (begins_store_words c.args.self.now c.args.a.now c.args.e.now) c.in_err-addr.ensures
 
-pub returns-in_default-2-clause-config : goal.returns-in_default-2-clause-config
-returns-in_default-2-clause-config c = c.fail-in_default-2.ensures.config ∙ sym (begins_store_words c.args.self.now c.args.a.now c.args.e.now ∙ word_some _ _ c.in-Some.addr _ c.in-Some.is c.in_ok-addr.ensures ∙ seen_none told _ _ _ c.in_default-2.is c.in_ok-value.ensures)
+pub returns-in_err-value-clause-config : goal.returns-in_err-value-clause-config
+returns-in_err-value-clause-config c =
+    halted _ _ _ _ _ _ c.from_residual-in_err-value.ensures.1 (begins_store_words c.args.self.now c.args.a.now c.args.e.now ∙ given _ _ _ c.in_ok-addr.ensures) c.in_err-value.ensures
 
 pub returns-then-not-store_words-clause-config : goal.returns-then-not-store_words-clause-config
-returns-then-not-store_words-clause-config c = c.fail-then-not-store_words.ensures.config ∙ sym (begins_store_words c.args.self.now c.args.a.now c.args.e.now ∙ word_some _ _ c.in-Some.addr _ c.in-Some.is c.in_ok-addr.ensures ∙ seen_some told _ _ c.in-Some-2.value _ c.in-Some-2.is c.in_ok-value.ensures ∙ word_none _ _ _ (c.if-not-store_words.ensures {u = tt}).refused refl)
+returns-then-not-store_words-clause-config c =
+    begins_store_words c.args.self.now c.args.a.now c.args.e.now ∙ given _ _ _ c.in_ok-addr.ensures ∙ given _ _ _ c.in_ok-value.ensures ∙ missing _ _ (c.if-not-store_words.ensures {u = tt}).refused
 
 pub returns-clause-config : goal.returns-clause-config
 returns-clause-config c =
     at_next _ _ _ _ c.requires
-    ∙ sym (begins_store_words c.args.self.now c.args.a.now c.args.e.now ∙ word_some _ _ c.in-Some.addr _ c.in-Some.is c.in_ok-addr.ensures ∙ seen_some told _ _ c.in-Some-2.value _ c.in-Some-2.is c.in_ok-value.ensures ∙ word_some _ _ c.store_words.new.self _ (c.if-not-store_words.ensures {u = tt}).stored refl)
+    ∙ sym (begins_store_words c.args.self.now c.args.a.now c.args.e.now ∙ given _ _ _ c.in_ok-addr.ensures ∙ given _ _ _ c.in_ok-value.ensures ∙ given _ _ _ (c.if-not-store_words.ensures {u = tt}).stored)

@@ -5,4 +5,7 @@ pub returns : goal.returns
 returns c =
     let run = c.run-used in
     let pause = c.pause-pause in
-    advances c.args.self.now run.new.self c.args.budget run.result run.ensures pause.result pause.ensures
+    record {
+      advances = advances c.args.self.now run.new.self c.args.budget run.result run.ensures.ran pause.result pause.ensures;
+      end = run.ensures.end;
+    }

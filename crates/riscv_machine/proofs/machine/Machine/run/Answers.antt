@@ -1,5 +1,6 @@
 use Rattle.std.proofs.Common.{arith, inr, ◌∙◌}
 use Rattle.riscv_machine.proofs.AdvanceLemmas.{goes_on, bound_on, started}
+use Rattle.riscv_machine.proofs.EndLemmas.{came_on, ends_here}
 use Rattle.riscv_machine.proofs.machine.Machine.run.Goals as goal
 
 pub steps-preserved : goal.steps-preserved
@@ -17,4 +18,6 @@ steps-preserved c =
       bound = bound_on old mid new used running stepped invariant.bound;
       size = c.step.ensures.size ∙ invariant.size;
       origin = inr (started old mid used invariant.origin running, c.step.ensures.unrefused);
+      came = came_on old mid new used running stepped invariant.came;
+      end = ends_here old mid new used running stepped invariant.came c.step.ensures.kept;
     }

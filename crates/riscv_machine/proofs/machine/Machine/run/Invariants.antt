@@ -1,5 +1,6 @@
 use Rattle.std.proofs.Common.{◌-◌, ◌≤◌}
-use Rattle.riscv_machine.specs.Machine.{GoesOn, IsBounded, HasSize, ComesFrom}
+use Rattle.riscv_machine.specs.Machine.{GoesOn, IsBounded, HasSize, ComesFrom, StandsAtEnd}
+use Rattle.riscv_machine.proofs.EndLemmas.{CameHere}
 use Rattle.riscv_machine.proofs.machine.Machine.run.Given as goal
 
 abbrev pub invariant-steps : goal.invariant-steps
@@ -9,6 +10,8 @@ invariant-steps l = record {
   bound : IsBounded l.fn.self l.self l.used;
   size : HasSize l.fn.self l.self;
   origin : ComesFrom l.fn.self l.self l.used;
+  came : CameHere l.fn.self l.self l.used;
+  end : StandsAtEnd l.fn.self l.self l.used;
 }
 
 abbrev pub decreases-steps : goal.decreases-steps

@@ -1,9 +1,0 @@
-use Rattle.std.proofs.Common.{◌≡◌, ◌++◌, map, drop}
-use Rattle.pan_tree.specs.declared.program.Function.{Function}
-use Rattle.pan_runner.specs.Numbering.{numbered}
-use Rattle.pan_runner.proofs.directory.function_numbers.Given as goal
-
--- what is left completes what is done
-abbrev pub invariant-loop-i : goal.invariant-loop-i
-invariant-loop-i l =
-    l.numbers ++ numbered l.i (map (λ (x : Function). x.name) (drop l.i l.functions)) ≡ numbered 0 (map (λ (x : Function). x.name) l.functions)

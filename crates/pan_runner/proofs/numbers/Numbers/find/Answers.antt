@@ -1,7 +1,0 @@
-use Rattle.std.proofs.Common.{ap, ◌∙◌}
-use Rattle.pan_tree.specs.Scopes.{in_scope}
-use Rattle.pan_runner.proofs.NumberLemmas.{named_reads}
-use Rattle.pan_runner.proofs.numbers.Numbers.find.Goals as goal
-
-pub returns : goal.returns
-returns c = c.copied.ensures ∙ c.get.ensures.value ∙ named_reads c.args.name.now (c.self.inside.firsts).entries ∙ c.self.invariant c.args.name.now ∙ ap (in_scope c.args.name.now) c.self.view_is

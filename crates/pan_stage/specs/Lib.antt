@@ -1,0 +1,6 @@
+pub mod Stage
+pub mod Locals
+pub mod Toll
+pub mod Returns
+pub mod Shared
+pub mod Data

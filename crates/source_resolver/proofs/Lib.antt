@@ -1,0 +1,10 @@
+pub mod Images
+pub mod Mains
+pub mod NumberLemmas
+pub mod PlaceLemmas
+pub mod Placing
+pub mod ResolvedExprs
+pub mod ResolvedPrograms
+pub mod ResolvedStmts
+pub mod ResolvingExprs
+pub mod ResolvingStmts

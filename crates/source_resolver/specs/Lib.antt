@@ -1,0 +1,4 @@
+pub mod formers
+pub mod Numbering
+pub mod Resolving
+pub mod Slots
