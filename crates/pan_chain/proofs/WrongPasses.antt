@@ -1,10 +1,10 @@
 -- What no pass may do.
 use Rattle.std.specs.Prelude.{◌⊎◌}
-use Rattle.std.proofs.Common.{◌≡◌, ℕ, zero, suc, ◌+◌, ◌≤◌, [], refl, sym, ap, ◌∙◌, inl, inr, arith}
+use Rattle.std.proofs.Common.{◌≡◌, ℕ, zero, suc, ◌+◌, ◌≤◌, [], ◌∷◌, refl, sym, ap, ◌∙◌, inl, inr, arith}
 use Rattle.pan_base.specs.Events.{Ending, Exit, Spent, Stack, Behaviour, only}
 use Rattle.pan_base.specs.Lawful.{IsLawfulMemory, IsLawfulStack}
 use Rattle.pan_stage.specs.Stage.{Keeps, KeepsOverStack, IsSeenAs, IsCutShort, RunsInSteps, IsDoneInSteps, IsCutShortInSteps}
-use Rattle.pan_chain.specs.Samples.{sample, without_stack, exits_after}
+use Rattle.pan_chain.specs.Samples.{sample, needing, without_stack, exits_after}
 
 no_memory : IsLawfulMemory []
 no_memory = record { whole = refl; most = omega arith; bytes = λ i. omega arith }
@@ -24,6 +24,12 @@ no_other_end toll k = let s = k.seen [] [] 0 no_memory (λ e. cc) in let same : 
 
 pub no_other_cost : (toll : ℕ) → Keeps (sample (only (Exit 0)) 64 toll) (sample (only (Exit 0)) 80 toll) → ⊥
 no_other_cost toll k = let s = k.seen [] [] 0 no_memory (λ e. cc) in let h = s.deepest in omega (arith, h)
+
+pub no_wider : Keeps (needing (record { frames = 64 ∷ []; code = 8 })) (needing (record { frames = 72 ∷ []; code = 8 })) → ⊥
+no_wider k = let h = ((k.needs).frames).0 in omega (arith, h)
+
+pub no_longer : Keeps (needing (record { frames = 64 ∷ []; code = 8 })) (needing (record { frames = 64 ∷ []; code = 12 })) → ⊥
+no_longer k = let h = (k.needs).code in omega (arith, h)
 
 pub not_early : (toll : ℕ) → KeepsOverStack (sample (only (Exit 0)) 64 toll) without_stack → ⊥
 not_early toll k = by (k.seen 64 [] [] 0 small_stack no_memory (λ e. cc))

@@ -6,14 +6,23 @@ use Rattle.pan_control.specs.Control.{Outcome, Normal, Broken, Continued, Return
 use Rattle.pan_stage.proofs.Rows.{then_normal}
 use Rattle.pan_stage.proofs.Grows.{Extends, extends_self, Grown, Grows, then_on, value_grown, choice_grown, spend_grown, body_on, body_grown, turns_grow, after_call_on}
 
--- the second's world beside the first's: its globals are what the view makes of the first's, and it has another toll
-abbrev pub beside : {G G' : Type 0} → (G → G') → ℕ → World G → World G'
-beside view t w = record { memory = w.memory; globals = view w.globals; replies = w.replies; trace = w.trace; fuel = w.fuel; active = w.active; own = w.own; deepest = w.deepest; toll = t }
+-- how the second's memory and globals come from the first's
+pub record View (G G' : Type 0) : Type 0 where
+  pub memory : List ℕ → List ℕ
+  pub globals : G → G'
+
+-- the same memory, and globals that are what this makes of the first's
+abbrev pub keeping : {G G' : Type 0} → (G → G') → View G G'
+keeping globals = record { memory = λ m. m; globals = globals }
+
+-- the second's world beside the first's: its memory and its globals are what the view makes of the first's, and it has another toll
+abbrev pub beside : {G G' : Type 0} → View G G' → ℕ → World G → World G'
+beside view t w = record { memory = view.memory w.memory; globals = view.globals w.globals; replies = w.replies; trace = w.trace; fuel = w.fuel; active = w.active; own = w.own; deepest = w.deepest; toll = t }
 
 -- What is to hold at each end of two runs: of the first's variables or results, of its world, of the second's variables or results, and of the second's toll.
 pub record Ends (G G' V U X Y : Type 0) : Type 1 where
-  -- the second's globals, by the first's
-  pub view : G → G'
+  -- the second's memory and globals, by the first's
+  pub view : View G G'
   pub normal : V → World G → U → ℕ → Type 0
   pub broken : V → World G → U → ℕ → Type 0
   pub continued : V → World G → U → ℕ → Type 0
@@ -26,14 +35,14 @@ pub record Ends (G G' V U X Y : Type 0) : Type 1 where
   pub stays : (w w' : World G) (after : World G') → Extends w w' → cut w after → cut w' after
 
 -- the second comes to something that is related
-pub record To {G G' A B O : Type 0} (view : G → G') (R : A → World G → B → ℕ → Type 0) (a : A) (w : World G) (make : B → World G' → O) (o : O) : Type 0 where
+pub record To {G G' A B O : Type 0} (view : View G G') (R : A → World G → B → ℕ → Type 0) (a : A) (w : World G) (make : B → World G' → O) (o : O) : Type 0 where
   pub second : B
   pub toll : ℕ
   pub holds : R a w second toll
   pub is : o ≡ make second (beside view toll w)
 
 -- the second is over in the same way
-pub record Stops {G G' U Y : Type 0} (view : G → G') (S : World G → ℕ → Type 0) (e : Ending) (w : World G) (o : Outcome G' U Y) : Type 0 where
+pub record Stops {G G' U Y : Type 0} (view : View G G') (S : World G → ℕ → Type 0) (e : Ending) (w : World G) (o : Outcome G' U Y) : Type 0 where
   pub toll : ℕ
   pub holds : S w toll
   pub is : o ≡ Over e (beside view toll w)
@@ -117,10 +126,10 @@ module _ {G G' V U X Y : Type 0} (r : Ends G G' V U X Y) where
   same_as o a b e s = subst (Same o) (sym e) s
 
 -- what holds stays true of what follows
-to_on : {G G' A B O O' : Type 0} (view : G → G') (R : A → World G → B → ℕ → Type 0) (a : A) (w : World G) (make : B → World G' → O) (make' : B → World G' → O') (o : O) (f : O → O') → ((b : B) (w : World G') → f (make b w) ≡ make' b w) → To view R a w make o → To view R a w make' (f o)
+to_on : {G G' A B O O' : Type 0} (view : View G G') (R : A → World G → B → ℕ → Type 0) (a : A) (w : World G) (make : B → World G' → O) (make' : B → World G' → O') (o : O) (f : O → O') → ((b : B) (w : World G') → f (make b w) ≡ make' b w) → To view R a w make o → To view R a w make' (f o)
 to_on view R a w make make' o f e s = record { second = s.second; toll = s.toll; holds = s.holds; is = ap f s.is ∙ e s.second (beside view s.toll w) }
 
-stops_on : {G G' U Y U' Y' : Type 0} (view : G → G') (S : World G → ℕ → Type 0) (e : Ending) (w : World G) (o : Outcome G' U Y) (f : Outcome G' U Y → Outcome G' U' Y') → ((e : Ending) (w : World G') → f (Over e w) ≡ Over e w) → (is_fails e ≡ false → Stops view S e w o) → is_fails e ≡ false → Stops view S e w (f o)
+stops_on : {G G' U Y U' Y' : Type 0} (view : View G G') (S : World G → ℕ → Type 0) (e : Ending) (w : World G) (o : Outcome G' U Y) (f : Outcome G' U Y → Outcome G' U' Y') → ((e : Ending) (w : World G') → f (Over e w) ≡ Over e w) → (is_fails e ≡ false → Stops view S e w o) → is_fails e ≡ false → Stops view S e w (f o)
 stops_on view S e w o f h s n = let p = s n in record { toll = p.toll; holds = p.holds; is = ap f p.is ∙ h e (beside view p.toll w) }
 
 module _ {G G' V U X Y : Type 0} (r : Ends G G' V U X Y) where

@@ -6,11 +6,11 @@ use Rattle.pan_base.proofs.PrefixLaws.{prefix_trans}
 use Rattle.pan_control.specs.World.{World}
 use Rattle.pan_control.specs.Control.{Outcome, Normal, Meaning, Callee, and_then}
 use Rattle.pan_stage.proofs.Grows.{Extends}
-use Rattle.pan_stage.proofs.Follows.{beside, Ends, Same, Nothing, Follows, less_same, more_same}
+use Rattle.pan_stage.proofs.Follows.{View, keeping, beside, Ends, Same, Nothing, Follows, less_same, more_same}
 
--- both have the same globals, as from words on
-abbrev pub same_globals : {G : Type 0} → G → G
-same_globals g = g
+-- both have the same memory and globals, as from words on
+abbrev pub same_globals : {G : Type 0} → View G G
+same_globals = keeping (λ g. g)
 
 -- So much is done by the second, and so much is kept back: together at most k times as much as the first has done in this world.
 abbrev pub Within : {G : Type 0} → ℕ → ℕ → ℕ → World G → Type 0
@@ -47,7 +47,7 @@ exhausting size k = record {
 }
 
 -- relations that say nothing of the toll, with so much of it kept back at each end
-abbrev pub paid : {G G' V U X Y : Type 0} (view : G → G') (cuts : Cuts G G') (k kept : ℕ) (N B C : V → World G → U → Type 0) (Q : X → World G → Y → Type 0) (E : ℕ → X → World G → Y → Type 0) → Ends G G' V U X Y
+abbrev pub paid : {G G' V U X Y : Type 0} (view : View G G') (cuts : Cuts G G') (k kept : ℕ) (N B C : V → World G → U → Type 0) (Q : X → World G → Y → Type 0) (E : ℕ → X → World G → Y → Type 0) → Ends G G' V U X Y
 paid view cuts k kept N B C Q E = record {
   view = view;
   normal = Paid k kept N;
@@ -61,7 +61,7 @@ paid view cuts k kept N B C Q E = record {
 }
 
 -- where a function is left, with so much kept back
-abbrev pub left_paid : {G G' X Y : Type 0} (view : G → G') (cuts : Cuts G G') (k kept : ℕ) (Q : X → World G → Y → Type 0) (E : ℕ → X → World G → Y → Type 0) → Ends G G' (Unit {0}) (Unit {0}) X Y
+abbrev pub left_paid : {G G' X Y : Type 0} (view : View G G') (cuts : Cuts G G') (k kept : ℕ) (Q : X → World G → Y → Type 0) (E : ℕ → X → World G → Y → Type 0) → Ends G G' (Unit {0}) (Unit {0}) X Y
 left_paid view cuts k kept Q E = record {
   view = view;
   normal = Nothing;
@@ -75,10 +75,10 @@ left_paid view cuts k kept Q E = record {
 }
 
 -- the functions of the second do what those of the first do, from related arguments; what is related at their ends may speak of what the second got
-abbrev pub CalleeFollows : {G G' A A' X Y : Type 0} (view : G → G') (cuts : Cuts G G') (k : ℕ) (P : A → World G → A' → Type 0) (Q : A' → X → World G → Y → Type 0) (E : A' → ℕ → X → World G → Y → Type 0) → Callee G A X → Callee G' A' Y → Type 0
+abbrev pub CalleeFollows : {G G' A A' X Y : Type 0} (view : View G G') (cuts : Cuts G G') (k : ℕ) (P : A → World G → A' → Type 0) (Q : A' → X → World G → Y → Type 0) (E : A' → ℕ → X → World G → Y → Type 0) → Callee G A X → Callee G' A' Y → Type 0
 CalleeFollows {G = G} view cuts k P Q E c c' = (kept f : ℕ) → (a : _) (w : World G) (a' : _) (t : ℕ) → Paid k kept P a w a' t → Same (left_paid view cuts k kept (Q a') (E a')) (c f a w) (c' f a' (beside view t w))
 
-module _ {G G' : Type 0} (view : G → G') (cuts : Cuts G G') (k : ℕ) {V U X Y : Type 0} (N B C : V → World G → U → Type 0) (Q : X → World G → Y → Type 0) (E : ℕ → X → World G → Y → Type 0) where
+module _ {G G' : Type 0} (view : View G G') (cuts : Cuts G G') (k : ℕ) {V U X Y : Type 0} (N B C : V → World G → U → Type 0) (Q : X → World G → Y → Type 0) (E : ℕ → X → World G → Y → Type 0) where
   -- less is kept back
   pub keeps_less : (more kept : ℕ) (o : Outcome G V X) (o' : Outcome G' U Y) → Same (paid view cuts k (more + kept) N B C Q E) o o' → Same (paid view cuts k kept N B C Q E) o o'
   keeps_less more kept o o' s =
@@ -122,7 +122,7 @@ module _ {G G' : Type 0} (view : G → G') (cuts : Cuts G G') (k : ℕ) {V U X Y
       }) o o' s) f
 
 -- less is said of the results
-pub results_less : {G G' X Y : Type 0} (view : G → G') (cuts : Cuts G G') (k kept : ℕ) (Q R : X → World G → Y → Type 0) (E F : ℕ → X → World G → Y → Type 0) (o : Outcome G (Unit {0}) X) (o' : Outcome G' (Unit {0}) Y)
+pub results_less : {G G' X Y : Type 0} (view : View G G') (cuts : Cuts G G') (k kept : ℕ) (Q R : X → World G → Y → Type 0) (E F : ℕ → X → World G → Y → Type 0) (o : Outcome G (Unit {0}) X) (o' : Outcome G' (Unit {0}) Y)
     → ((x : X) (w : World G) (y : Y) → Q x w y → R x w y) → ((i : ℕ) (x : X) (w : World G) (y : Y) → E i x w y → F i x w y) → Same (left_paid view cuts k kept Q E) o o' → Same (left_paid view cuts k kept R F) o o'
 results_less view cuts k kept Q R E F o o' q e s =
     less_same (left_paid view cuts k kept Q E) (left_paid view cuts k kept R F) (record {

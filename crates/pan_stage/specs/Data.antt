@@ -80,7 +80,7 @@ Meaning V X = MeaningOf (List ℕ) V X
 abbrev pub Callee : Type 0 → Type 0 → Type 0
 Callee A X = CalleeOf (List ℕ) A X
 
--- the world at the start, with these words as globals, this memory, these replies and this fuel
+-- the world at the start, with these words as globals, this memory, these replies and this fuel, and the starting steps done
 abbrev pub start : List ℕ → List ℕ → List Replied → ℕ → World
 start words m r n = stepped starting_steps (runs.start (words_bytes words) m r n)
 

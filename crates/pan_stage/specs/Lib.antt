@@ -1,6 +1,11 @@
 pub mod Stage
+pub mod Room
 pub mod Locals
 pub mod Toll
+pub mod Sums
 pub mod Returns
 pub mod Shared
 pub mod Data
+pub mod Programs
+pub mod Mentions
+pub mod WellFormed

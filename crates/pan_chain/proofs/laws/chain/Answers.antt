@@ -1,8 +1,19 @@
-use Rattle.pan_stage.proofs.Chain.{over_stack_then, steps_then}
+use Rattle.std.proofs.Common.{subst, sym}
+use Rattle.pan_stage.specs.Room.{HasRoom}
+use Rattle.pan_stage.proofs.Chain.{keeps_then, room_kept, over_stack_then, steps_then}
 use Rattle.pan_tree.specs.Meaning.{source}
 use Rattle.pan_chain.specs.Whole.{most_instructions, source_stage, machine_of}
 use Rattle.pan_chain.proofs.InTime.{within_time}
 use Rattle.pan_chain.proofs.laws.chain.Goals as goal
+
+pub returns-clause-passes : goal.returns-clause-passes
+returns-clause-passes c = keeps_then
+
+pub returns-clause-frames : goal.returns-clause-frames
+returns-clause-frames c = over_stack_then
+
+pub returns-clause-room : goal.returns-clause-room
+returns-clause-room c = λ a b k h. room_kept (b.face).costs a.needs b.needs k.needs (subst (λ f. HasRoom f.costs a.needs) (sym k.face) h)
 
 pub returns-clause-lines : goal.returns-clause-lines
 returns-clause-lines c = steps_then

@@ -1,0 +1,5 @@
+pub mod Rows
+pub mod Flat
+pub mod Flattened
+pub mod Source
+pub mod Literals

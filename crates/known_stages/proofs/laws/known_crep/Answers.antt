@@ -1,0 +1,32 @@
+use Rattle.known_stages.proofs.CrepMeanings.{loops_is, spent_is, caught_is, tail_is, stopped_is, asks_is, done_is, passes_on_is, breaks_before_is, data_memory_is}
+use Rattle.known_stages.proofs.laws.known_crep.Goals as goal
+
+pub returns-clause-loops : goal.returns-clause-loops
+returns-clause-loops c = loops_is
+
+pub returns-clause-spent : goal.returns-clause-spent
+returns-clause-spent c = spent_is
+
+pub returns-clause-caught : goal.returns-clause-caught
+returns-clause-caught c = caught_is
+
+pub returns-clause-tail : goal.returns-clause-tail
+returns-clause-tail c = tail_is
+
+pub returns-clause-stopped : goal.returns-clause-stopped
+returns-clause-stopped c = stopped_is
+
+pub returns-clause-asks : goal.returns-clause-asks
+returns-clause-asks c = asks_is
+
+pub returns-clause-done : goal.returns-clause-done
+returns-clause-done c = done_is
+
+pub returns-clause-passes_on : goal.returns-clause-passes_on
+returns-clause-passes_on c = passes_on_is
+
+pub returns-clause-breaks_before : goal.returns-clause-breaks_before
+returns-clause-breaks_before c = breaks_before_is
+
+pub returns-clause-data_memory : goal.returns-clause-data_memory
+returns-clause-data_memory c = data_memory_is

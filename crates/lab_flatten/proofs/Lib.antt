@@ -1,0 +1,17 @@
+pub mod Hiding
+pub mod Bytes
+pub mod Machine
+pub mod Lines
+pub mod Lands
+pub mod Calls
+pub mod Leaving
+pub mod Simulation
+pub mod Functions
+pub mod Standing
+pub mod Labels
+pub mod Facts
+pub mod Whole
+pub mod Needs
+pub mod Ranges
+pub mod Rules
+pub mod Kept

@@ -1,0 +1,12 @@
+//! From structured code over frames to lines.
+#![tactic(auto)]
+
+mod blocks;
+mod emptiness;
+mod flattening;
+mod fronts;
+mod outer_rows;
+mod rows;
+mod statements;
+
+pub use flattening::flatten_code;

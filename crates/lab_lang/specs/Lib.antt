@@ -1,0 +1,5 @@
+pub mod Layout
+pub mod Meaning
+pub mod Needs
+pub mod Stage
+pub mod WellFormed

@@ -1,0 +1,3 @@
+pub mod Longest
+pub mod Lowered
+pub mod Linked

@@ -1,0 +1,17 @@
+pub mod Layers
+pub mod Plans
+pub mod Exprs
+pub mod Operands
+pub mod Tested
+pub mod Statements
+pub mod Programs
+pub mod Texts
+pub mod Bounds
+pub mod Reach
+pub mod Narrow
+pub mod Written
+pub mod Kept
+pub mod LowerRules
+pub mod SizeRules
+pub mod ReachRules
+pub mod StmtRules

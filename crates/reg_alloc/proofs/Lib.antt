@@ -1,0 +1,11 @@
+pub mod Above
+pub mod Occur
+pub mod SlotNumbers
+pub mod RenameRules
+pub mod Agree
+pub mod Statements
+pub mod Programs
+pub mod Texts
+pub mod RenamedWays
+pub mod Kept
+pub mod Applied

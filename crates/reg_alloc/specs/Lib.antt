@@ -1,0 +1,4 @@
+pub mod Homes
+pub mod Variables
+pub mod Renamed
+pub mod Accepts

@@ -1,0 +1,87 @@
+//! Instructions that give a register a word.
+
+ghost use Rattle.std.specs.Prelude.{◌≡◌, ◌++◌, ◌∷◌, [], map, OnOk};
+ghost use Rattle.stack_frames.specs.Constants.{low, high, constant_in, constant};
+ghost use Rattle.stack_lang.specs.declared.syntax.Stmt.TheVariants as stack;
+ghost use Rattle.riscv_isa.specs.declared.instr.Instr.TheVariants as instr;
+ghost use Rattle.pan_base.specs.declared.operators.IOp.TheVariants.{Addi};
+
+use pan_base::{IOp, List, NoMemory, ShOp, ShiftOp, UOp};
+use riscv_isa::Instr;
+use stack_lang::Stmt;
+
+/// Puts a statement at the end.
+pub fn put(code: &mut List<Stmt>, stmt: Stmt) -> Result<(), NoMemory>
+    ensures { OnOk result (code.new ≡ code.old ++ stmt ∷ []) }
+{
+    code.push(stmt)?;
+    Ok(())
+}
+
+/// The sum of a register and a small number.
+pub fn sum(rd: u8, rs1: u8, imm: i32) -> Stmt
+    ensures { result ≡ stack.Plain (instr.I Addi rd rs1 imm) }
+{
+    Stmt::Plain(Instr::I {
+        op: IOp::Addi,
+        rd,
+        rs1,
+        imm,
+    })
+}
+
+/// Divides a word by 2^12 in two's complement, to the nearest: the quotient, and what is left, from -2,048 to 2,047.
+fn split(word: u64) -> (u64, i32)
+    ensures quotient { result.0 ≡ high word }
+    ensures rest { result.1 ≡ low word }
+{
+    let bits = (word % 4096) as i32;
+    let quotient = ShOp::Sar.apply(word, 12);
+    if bits < 2048 {
+        (quotient, bits)
+    } else {
+        (quotient.wrapping_add(1), bits - 4096)
+    }
+}
+
+/// Puts instructions that give register `rd` the word, with its high bits by as many steps as the depth allows.
+#[tactic(auto, using(crate::proofs::Rules::constant_rules))]
+fn put_constant_in(code: &mut List<Stmt>, depth: u8, rd: u8, word: u64) -> Result<(), NoMemory>
+    ensures { OnOk result (code.new ≡ code.old ++ map stack.Plain (constant_in depth rd word)) }
+{
+    let (quotient, rest) = split(word);
+    if quotient == 0 {
+        put(code, sum(rd, 0, rest))?;
+    } else if quotient.wrapping_add(1 << 19) < 1 << 20 {
+        put(
+            code,
+            Stmt::Plain(Instr::U {
+                op: UOp::Lui,
+                rd,
+                high: (quotient % (1 << 20)) as u32,
+            }),
+        )?;
+        put(code, sum(rd, rd, rest))?;
+    } else if depth > 0 {
+        put_constant_in(code, depth - 1, rd, quotient)?;
+        put(
+            code,
+            Stmt::Plain(Instr::Sh {
+                op: ShiftOp::Slli,
+                rd,
+                rs1: rd,
+                amount: 12,
+            }),
+        )?;
+        put(code, sum(rd, rd, rest))?;
+    }
+    Ok(())
+}
+
+/// Puts instructions that give register `rd` the word, at most 8: ADDI from x0, or LUI and ADDI, or those of the word's
+/// quotient by 2^12 with SLLI and ADDI.
+pub fn put_constant(code: &mut List<Stmt>, rd: u8, word: u64) -> Result<(), NoMemory>
+    ensures { OnOk result (code.new ≡ code.old ++ map stack.Plain (constant rd word)) }
+{
+    put_constant_in(code, 3, rd, word)
+}

@@ -1,0 +1,11 @@
+//! The pass from homes to frames: each variable is a register of the machine, or a slot of its function's frame.
+#![tactic(auto)]
+
+mod bodies;
+mod constants;
+mod framing;
+mod handlers;
+mod numbering;
+mod registers;
+
+pub use framing::{frame_bytes, frames};

@@ -1,0 +1,8 @@
+pub mod Steps
+pub mod Meaning
+pub mod Text
+pub mod Needs
+pub mod Stage
+pub mod WellFormed
+pub mod Live
+pub mod Homes

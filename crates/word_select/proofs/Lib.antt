@@ -1,0 +1,15 @@
+pub mod Above
+pub mod BoundRules
+pub mod Exponents
+pub mod FactLaws
+pub mod Operations
+pub mod LoopLayers
+pub mod SelectRules
+pub mod Reach
+pub mod Statements
+pub mod Programs
+pub mod SpokenLaws
+pub mod OperationTexts
+pub mod Texts
+pub mod SelectedTexts
+pub mod Kept
