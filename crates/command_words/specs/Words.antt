@@ -3,7 +3,7 @@ use Rattle.std.specs.Prelude.{◌≡◌, ℕ, ◌%◌, ◌≤◌, if◌then◌el
 use Rattle.std.specs.Str.{bytes_eq}
 use Rattle.pan_base.specs.Spelling.{numeral}
 use Rattle.command_words.specs.declared.order.Action.{Action}
-use Rattle.command_words.specs.declared.order.Action.TheVariants.{Compile, Check, Run, Meaning}
+use Rattle.command_words.specs.declared.order.Action.TheVariants.{Compile, Check, Run, Meaning, Show, Dis}
 use Rattle.command_words.specs.declared.order.Options.{Options}
 use Rattle.command_words.specs.declared.order.Order.{Order}
 use Rattle.command_words.specs.declared.order.Stage.{Stage}
@@ -16,6 +16,8 @@ action_word (Compile source image) = codes "compile"
 action_word (Check source) = codes "check"
 action_word (Run image script) = codes "run"
 action_word (Meaning source script) = codes "meaning"
+action_word (Show source) = codes "show"
+action_word (Dis image) = codes "dis"
 
 -- the name that follows it
 abbrev pub first_name : Action → List ℕ
@@ -23,6 +25,8 @@ first_name (Compile source image) = source
 first_name (Check source) = source
 first_name (Run image script) = image
 first_name (Meaning source script) = source
+first_name (Show source) = source
+first_name (Dis image) = image
 
 -- the second name, where the action has two
 abbrev pub second_name : Action → Option (List ℕ)
@@ -30,6 +34,8 @@ second_name (Compile source image) = Some image
 second_name (Check source) = None
 second_name (Run image script) = Some script
 second_name (Meaning source script) = Some script
+second_name (Show source) = None
+second_name (Dis image) = None
 
 -- In what follows `value` tells the values that the words give, by the name of the argument.
 

@@ -35,6 +35,10 @@ pub enum Action {
     Run { image: Text, script: Text },
     /// Run a source, by its meaning, over a script.
     Meaning { source: Text, script: Text },
+    /// Show a stage of a source.
+    Show { source: Text },
+    /// List the code of an image.
+    Dis { image: Text },
 }
 
 /// What the words ask for.

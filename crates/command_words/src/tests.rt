@@ -28,6 +28,8 @@ fn action_shown(alloc: Global, action: &Action) -> Result<String, AllocError> {
         Action::Meaning { source, script } => {
             format!(in alloc; "meaning {} {}", source.as_str(), script.as_str())
         }
+        Action::Show { source } => format!(in alloc; "show {}", source.as_str()),
+        Action::Dis { image } => format!(in alloc; "dis {}", image.as_str()),
     }
 }
 

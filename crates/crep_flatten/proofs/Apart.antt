@@ -1,5 +1,5 @@
--- Words that don't read some variables are the same where only these differ.
-use Rattle.std.proofs.Common.{◌≡◌, ℕ, ◌+◌, ◌<◌, ◌≤◌, Bool, true, false, ◌||◌, List, [], ◌∷◌, ◌++◌, map, Option, Some, None, arith, refl, sym, ap, subst, ◌∙◌}
+-- A word that doesn't read some variables is the same where only these differ.
+use Rattle.std.proofs.Common.{◌≡◌, ℕ, ◌+◌, ◌<◌, ◌≤◌, Bool, true, false, ◌||◌, List, [], ◌++◌, Some, arith, refl, sym, ap, subst, ◌∙◌}
 use Rattle.std.specs.Prelude.{nat_lt, nat_le, option_map, option_and_then}
 use Rattle.std.specs.List.{list_all}
 use Rattle.std.proofs.lemmas.List.Folds.{list_all-append}
@@ -7,7 +7,7 @@ use Rattle.std.proofs.lemmas.Bool.Decides.{nat_tests}
 use Rattle.pan_base.specs.Words.{operate, shift, truth}
 use Rattle.pan_base.specs.declared.events.Size.TheVariants.{B1, B8}
 use Rattle.pan_stage.specs.Data.{read}
-use Rattle.pan_stage.specs.Locals.{Locals, all_words}
+use Rattle.pan_stage.specs.Locals.{Locals}
 use Rattle.check_soundness.proofs.SpreadShapes.{both_true}
 use Rattle.crep_lang.specs.Text.{variables_read}
 use Rattle.crep_lang.specs.declared.syntax.Expr.{Expr, Expr-F, roll-Expr, map-Expr}
@@ -15,8 +15,8 @@ use Rattle.crep_lang.specs.declared.syntax.Expr.TheOpen as open_expr
 use Rattle.crep_lang.specs.declared.syntax.Expr.TheVariants as expr
 use Rattle.crep_lang.proofs.Exprs.{read_var, read_load_word, read_load_byte, read_bin, read_shift, read_compare}
 use Rattle.crep_lang.proofs.Induction.{expr_induct}
-use Rattle.crep_flatten.specs.Flattened.{reads_none}
-use Rattle.crep_flatten.proofs.Beside.{word, word_num, word_var, word_load, word_byte, word_bin, word_shift, word_compare, words}
+use Rattle.crep_flatten.specs.Reads.{reads_none}
+use Rattle.crep_flatten.proofs.Beside.{word, word_num, word_var, word_load, word_byte, word_bin, word_shift, word_compare}
 use Rattle.crep_flatten.proofs.RowRuns.{Outside}
 
 -- of the variables that pass a test both have the same words
@@ -51,18 +51,8 @@ module _ (passes : ℕ → Bool) (u u' : Locals) (m : List ℕ) (same : (y : ℕ
   word_same : (e : Expr) → IsSame e
   word_same = expr_induct IsSame layer_same
 
-  words_same : (ws : List Expr) → list_all (λ w. list_all passes (variables_read w)) ws ≡ true → words ws u' m ≡ words ws u m
-  words_same [] h = refl
-  words_same (w ∷ ws) h =
-      let both = both_true (list_all passes (variables_read w)) (list_all (λ w. list_all passes (variables_read w)) ws) h in
-      ap (λ o. all_words (o ∷ map (λ e. word e u' m) ws)) (word_same w both.0) ∙ more (word w u m) (words_same ws both.1)
-    where
-      more : (o : Option ℕ) → words ws u' m ≡ words ws u m → all_words (o ∷ map (λ e. word e u' m) ws) ≡ all_words (o ∷ map (λ e. word e u m) ws)
-      more None h = refl
-      more (Some n) h = ap (option_map (λ ns. n ∷ ns)) h
-
-pub words_apart : (x n : ℕ) (ws : List Expr) (u u' : Locals) (m : List ℕ) → reads_none x n ws ≡ true → Outside x (x + n) u u' → words ws u' m ≡ words ws u m
-words_apart x n ws u u' m h o = words_same (λ y. nat_lt y x || nat_le (x + n) y) u u' m (λ y p. by y (nat_lt y x) (nat_le (x + n) y) (λ b. grind (arith, nat_tests, b)) (λ b. grind (arith, nat_tests, b)) p) ws h
+pub word_apart : (x n : ℕ) (w : Expr) (u u' : Locals) (m : List ℕ) → reads_none x n w ≡ true → Outside x (x + n) u u' → word w u' m ≡ word w u m
+word_apart x n w u u' m h o = word_same (λ y. nat_lt y x || nat_le (x + n) y) u u' m (λ y p. by y (nat_lt y x) (nat_le (x + n) y) (λ b. grind (arith, nat_tests, b)) (λ b. grind (arith, nat_tests, b)) p) w h
   where
     by : (y : ℕ) (a b : Bool) → (a ≡ true → y < x) → (b ≡ true → x + n ≤ y) → (a || b) ≡ true → u' y ≡ u y
     by y true b f g p = o.below y (f refl)

@@ -1,5 +1,5 @@
 -- The variables and the temporary words of a function in words fit what the source's function weighs.
-use Rattle.std.proofs.Common.{◌≡◌, ℕ, suc, ◌+◌, ◌*◌, ◌-◌, ◌≤◌, ◌||◌, Bool, true, false, List, [], ◌∷◌, ◌++◌, map, length, append-nil, arith, refl, sym, ap, subst, ◌∙◌}
+use Rattle.std.proofs.Common.{◌≡◌, ℕ, suc, ◌+◌, ◌*◌, ◌-◌, ◌≤◌, Bool, true, false, List, [], ◌∷◌, ◌++◌, map, length, append-nil, arith, refl, sym, ap, subst, ◌∙◌}
 use Rattle.std.specs.Prelude.{max, nat_le, if◌then◌else◌}
 use Rattle.std.proofs.lemmas.Bool.Decides.{nat_tests}
 use Rattle.pan_flow.specs.Functions.{variables, all_in_turn}
@@ -20,7 +20,8 @@ use Rattle.crep_flatten.specs.declared.rows.Row.{Row}
 use Rattle.crep_flatten.specs.declared.rows.Row.TheVariants as row
 use Rattle.crep_flatten.specs.Rows.{far, loads, variables as row_variables, inlined, Settled, settle}
 use Rattle.crep_flatten.specs.Flat.{Places, count, flat, word_in}
-use Rattle.crep_flatten.specs.Flattened.{assign_row, store_row, reads_none, moved, rows_of}
+use Rattle.crep_flatten.specs.Reads.{is_variable, go_straight}
+use Rattle.crep_flatten.specs.Flattened.{assign_row, store_row, one_move, moves, moved, rows_of}
 use Rattle.crep_flatten.proofs.RowWords.{count_variables}
 use Rattle.crep_flatten.proofs.Costs.{Static, weights_more, rows_loads, settled_well}
 use Rattle.crep_flatten.proofs.CodeFits.{cheap_at}
@@ -134,11 +135,24 @@ settled_low k c (row.Loads a i n ∷ rs) t h le = by (nat_le 2 n) (λ b. grind (
         let g = settle rs t in
         record { before = r.before; words = words_append k g.next (loads a i n) g.words (loads_low k g.next a i n (h.0).0 (word_more k k c g.next a (omega arith) (omega (arith, le, low)) (h.0).1)) r.words }
 
-pub moved_low : (k c x : ℕ) (ws : List Expr) (t : ℕ) → 1 ≤ k → WordsLow k c ws → x + length ws ≤ c → t + length ws ≤ c → StmtsLow k c (moved x ws t)
-moved_low k c x ws t some h lx lt = by (nat_le (length ws) 1 || reads_none x (length ws) ws)
+moves_low : (k c x : ℕ) (ws : List Expr) → WordsLow k c ws → x + length ws ≤ c → StmtsLow k c (moves x ws)
+moves_low k c x [] h le = none_low k c
+moves_low k c x (w ∷ ws) h le = append_low k c (one_move x w) (moves (suc x) ws) (by (is_variable w x)) (moves_low k c (suc x) ws h.1 (omega (arith, le)))
   where
-    by : (b : Bool) → StmtsLow k c (if b then assign_row x ws else assign_row t ws ++ assign_row x (row_variables t (length ws)))
-    by true = assigns_low k c x ws h lx
+    by : (b : Bool) → StmtsLow k c (if b then [] else stmt.Assign x w ∷ [])
+    by true = none_low k c
+    by false =
+        let a = between_assign x w in
+        let b = assign_top x w in
+        let i = h.0.temporary in
+        let j = h.0.below in
+        more_low k c (stmt.Assign x w) [] (omega (arith, a, i)) (omega (arith, b, j, le)) (none_low k c)
+
+pub moved_low : (k c x : ℕ) (ws : List Expr) (t : ℕ) → 1 ≤ k → WordsLow k c ws → x + length ws ≤ c → t + length ws ≤ c → StmtsLow k c (moved x ws t)
+moved_low k c x ws t some h lx lt = by (go_straight x 0 ws)
+  where
+    by : (b : Bool) → StmtsLow k c (if b then moves x ws else assign_row t ws ++ assign_row x (row_variables t (length ws)))
+    by true = moves_low k c x ws h lx
     by false =
         let n = count_variables t (length ws) in
         append_low k c (assign_row t ws) (assign_row x (row_variables t (length ws))) (assigns_low k c t ws h lt) (assigns_low k c x (row_variables t (length ws)) (variables_low k c t (length ws) some (λ q. lt)) (omega (arith, n, lx)))

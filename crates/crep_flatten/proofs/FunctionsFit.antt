@@ -2,6 +2,7 @@
 use Rattle.std.proofs.Common.{ℕ, zero, suc, ◌+◌, ◌*◌, ◌≤◌, Bool, true, false, List, [], ◌∷◌, ◌++◌, map, length, replicate, append-nil, Option, Some, None, arith, refl, sym, ap, subst, ◌∙◌}
 use Rattle.std.specs.Prelude.{max, nat_le, if◌then◌else◌}
 use Rattle.std.specs.Option.{option_map_or}
+use Rattle.std.specs.List.{list_any}
 use Rattle.std.proofs.lemmas.List.{length-replicate}
 use Rattle.pan_flow.specs.Functions.{variables}
 use Rattle.pan_stage.specs.Locals.{numbers_from}
@@ -38,8 +39,8 @@ use Rattle.crep_lang.proofs.Texts.{flow_skip, flow_store_byte, flow_if, flow_whi
 use Rattle.crep_flatten.specs.declared.rows.Row.{Row}
 use Rattle.crep_flatten.specs.Rows.{variables as row_variables, inlined, settle}
 use Rattle.crep_flatten.specs.Flat.{Place, Places, count, flat, word_in}
-use Rattle.crep_flatten.specs.Flattened.{assign_row, store_row, assigned, stored, flat_all, Flattening, flattening, flat_layer, flat_stmt, after_target, results, new_place, place_at, numbered, rows_of, exception_shape, cleared}
-use Rattle.crep_flatten.proofs.RowWords.{count_variables}
+use Rattle.crep_flatten.specs.Flattened.{assign_row, store_row, assigned, stored_words, stored, flat_all, Flattening, flattening, flat_layer, flat_stmt, after_target, results, new_place, place_at, numbered, rows_of, exception_shape, cleared}
+use Rattle.crep_flatten.specs.Reads.{reads_memory}
 use Rattle.crep_flatten.proofs.Costs.{Static, weights_more, rows_loads, rows_well, settled_well}
 use Rattle.crep_flatten.proofs.Places.{static_behind, static_block, static_target, static_more, stmt_roll}
 use Rattle.crep_flatten.proofs.CodeFits.{at, value_is, cheap_at, all_at}
@@ -81,12 +82,25 @@ cleared_low (target.New x) s here =
     let n = length-replicate {A = Expr} (words_of s) (e.Num 0) in
     assigns_low 1 (count here + words_of s) (count here) (replicate (words_of s) (e.Num 0)) (zeros_low (count here + words_of s) (words_of s)) (omega (arith, n))
 
+stored_words_low : (k c a : ℕ) (ws : List Expr) (t : ℕ) → 2 ≤ k → a + 1 ≤ c → WordsLow k c ws → t + length ws ≤ c → StmtsLow (1 + k) c (stored_words a ws t)
+stored_words_low k c a ws t some low h lt = by (list_any reads_memory ws)
+  where
+    at : WordLow k c (e.Var a)
+    at = low_var k c a (omega (arith, some)) low
+
+    by : (b : Bool) → StmtsLow (1 + k) c (if b then assign_row t ws ++ store_row (e.Var a) 0 (row_variables t (length ws)) else store_row (e.Var a) 0 ws)
+    by true =
+        let vs = row_variables t (length ws) in
+        append_low (1 + k) c (assign_row t ws) (store_row (e.Var a) 0 vs) (stmts_more k (1 + k) c c (assign_row t ws) (omega arith) (omega arith) (assigns_low k c t ws h lt))
+        (stores_low k c (e.Var a) 0 vs some at (variables_low k c t (length ws) (omega (arith, some)) (λ g. lt)))
+    by false = stores_low k c (e.Var a) 0 ws some at h
+
 -- what a store needs
 stored_low : (a : Expr) (rs : List Row) (t c i j : ℕ) → 1 ≤ i → 1 ≤ j → WordLow i c a → RowsLow j c rs → c ≤ t → StmtsLow (1 + i + j) (1 + t + rows_loads rs + length (inlined rs)) (stored a rs t)
 stored_low a rs t c i j some_i some_j ha h le = by (nat_le (length (settle rs (suc t)).words) 1)
   where
     by : (b : Bool) → let q = settle rs (suc t) in
-        StmtsLow (1 + i + j) (1 + t + rows_loads rs + length (inlined rs)) (if b then q.before ++ store_row a 0 q.words else stmt.Assign t a ∷ (q.before ++ (assign_row q.next q.words ++ store_row (e.Var t) 0 (row_variables q.next (length q.words)))))
+        StmtsLow (1 + i + j) (1 + t + rows_loads rs + length (inlined rs)) (if b then q.before ++ store_row a 0 q.words else stmt.Assign t a ∷ (q.before ++ stored_words t q.words q.next))
     by true =
         let q = settle rs (suc t) in
         let k = i + j in
@@ -100,8 +114,6 @@ stored_low a rs t c i j some_i some_j ha h le = by (nat_le (length (settle rs (s
     by false =
         let q = settle rs (suc t) in
         let k = i + j in
-        let n = length q.words in
-        let vs = row_variables q.next n in
         let to = 1 + t + rows_loads rs + length (inlined rs) in
         let w = settled_well rs (suc t) in
         let high = w.high in
@@ -112,13 +124,11 @@ stored_low a rs t c i j some_i some_j ha h le = by (nat_le (length (settle rs (s
         let z = assign_top t a in
         let x = ha.temporary in
         let y = ha.below in
-        let count_vs = count_variables q.next n in
-        let words_low = words_more j (1 + i + j) q.next to q.words (omega arith) (omega (arith, high)) sl.words in
+        let words_low = words_more j k q.next to q.words (omega arith) (omega (arith, high)) sl.words in
+        let rest = stored_words t q.words q.next in
         more_low (1 + i + j) to (stmt.Assign t a) _ (omega (arith, b, x)) (omega (arith, z, y, le))
-        (append_low (1 + i + j) to q.before _ (stmts_more j (1 + i + j) q.next to q.before (omega arith) (omega (arith, high)) sl.before)
-        (append_low (1 + i + j) to (assign_row q.next q.words) (store_row (e.Var t) 0 vs) (assigns_low (1 + i + j) to q.next q.words words_low (omega (arith, high, many)))
-        (stmts_more (1 + k) (1 + i + j) to to (store_row (e.Var t) 0 vs) (omega arith) (omega arith)
-        (stores_low k to (e.Var t) 0 vs (omega (arith, some_i, some_j)) (low_var k to t (omega (arith, some_i)) (omega arith)) (variables_low k to q.next n (omega (arith, some_i)) (λ g. omega (arith, high, many)))))))
+        (append_low (1 + i + j) to q.before rest (stmts_more j (1 + i + j) q.next to q.before (omega arith) (omega (arith, high)) sl.before)
+        (stmts_more (1 + k) (1 + i + j) to to rest (omega arith) (omega arith) (stored_words_low k to t q.words q.next (omega (arith, some_i, some_j)) (omega arith) words_low (omega (arith, high, many)))))
 
 -- ---- statements
 

@@ -8,6 +8,8 @@ pub mod Costs
 pub mod RowRuns
 pub mod Assigning
 pub mod Apart
+pub mod Memory
+pub mod Variables
 pub mod Straight
 pub mod Places
 pub mod Worth
@@ -32,3 +34,8 @@ pub mod WellFormed
 pub mod FirstWords
 pub mod SettledRows
 pub mod SpreadRules
+pub mod MovedWords
+pub mod FlatStmts
+pub mod FlatLayers
+pub mod ScopeLemmas
+pub mod PartWords

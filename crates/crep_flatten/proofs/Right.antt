@@ -1,7 +1,7 @@
 -- What functions in words mention is there, with as many words as they pass and take.
 use Rattle.std.proofs.Common.{◌≡◌, ◌⊎◌, ℕ, zero, suc, ◌+◌, ◌≤◌, ◌<◌, ◌&&◌, ◌||◌, not, Bool, true, false, nat_eq, List, [], ◌∷◌, ◌++◌, map, sum, length, replicate, Option, Some, None, slice_get, arith, refl, sym, ap, subst, ◌∙◌}
 use Rattle.std.specs.Prelude.{nat_lt, nat_le, ◌==◌, if◌then◌else◌, flat_map, option_map}
-use Rattle.std.specs.List.{list_all}
+use Rattle.std.specs.List.{list_all, list_any}
 use Rattle.std.specs.Option.{option_map_or}
 use Rattle.std.specs.Str.{bytes_eq}
 use Rattle.std.proofs.Math.Logic.{inl, inr}
@@ -51,7 +51,8 @@ use Rattle.crep_flatten.specs.declared.rows.Row.{Row}
 use Rattle.crep_flatten.specs.declared.rows.Row.TheVariants as row
 use Rattle.crep_flatten.specs.Rows.{far, loads, variables, inlined, settle}
 use Rattle.crep_flatten.specs.Flat.{Places, count, flat, word_in}
-use Rattle.crep_flatten.specs.Flattened.{assign_row, store_row, reads_none, moved, assigned, stored, flat_all, Flattening, flattening, flat_layer, flat_stmt, after_target, results, new_place, place_at, numbered, rows_of, exception_shape, cleared, flat_function, flattened}
+use Rattle.crep_flatten.specs.Reads.{is_variable, go_straight, reads_memory}
+use Rattle.crep_flatten.specs.Flattened.{assign_row, store_row, one_move, moves, moved, assigned, stored_words, stored, flat_all, Flattening, flattening, flat_layer, flat_stmt, after_target, results, new_place, place_at, numbered, rows_of, exception_shape, cleared, flat_function, flattened}
 use Rattle.crep_flatten.specs.Literals.{fits, stmt_layer, stmt_fits}
 use Rattle.crep_flatten.proofs.RowWords.{count_variables}
 use Rattle.crep_flatten.proofs.Costs.{Static, weights_more, rows_well, settled_well}
@@ -114,11 +115,19 @@ module _ (sc : Scope) (own : ℕ) where
           }
       by false r r' = record { before = r.before; words = words_ok_append sc own (loads a i n) (settle rs t).words (loads_ok sc own a i n (h.0).0 (h.0).1) r.words }
 
-  moved_ok : (x : ℕ) (ws : List Expr) (t : ℕ) → WordsOk sc own ws → MentionsOk (moved x ws t)
-  moved_ok x ws t h = by (nat_le (length ws) 1 || reads_none x (length ws) ws)
+  moves_ok : (x : ℕ) (ws : List Expr) → WordsOk sc own ws → MentionsOk (moves x ws)
+  moves_ok x [] h = refl
+  moves_ok x (w ∷ ws) h = stmts_append (one_move x w) (moves (suc x) ws) (by (is_variable w x)) (moves_ok (suc x) ws h.1)
     where
-      by : (b : Bool) → MentionsOk (if b then assign_row x ws else assign_row t ws ++ assign_row x (variables t (length ws)))
-      by true = assigns_ok x ws h
+      by : (b : Bool) → MentionsOk (if b then [] else stmt.Assign x w ∷ [])
+      by true = refl
+      by false = more_ok (stmt.Assign x w) [] (ap (list_all (is_right sc own)) (mentions_assign x w) ∙ h.0) refl
+
+  moved_ok : (x : ℕ) (ws : List Expr) (t : ℕ) → WordsOk sc own ws → MentionsOk (moved x ws t)
+  moved_ok x ws t h = by (go_straight x 0 ws)
+    where
+      by : (b : Bool) → MentionsOk (if b then moves x ws else assign_row t ws ++ assign_row x (variables t (length ws)))
+      by true = moves_ok x ws h
       by false = stmts_append (assign_row t ws) (assign_row x (variables t (length ws))) (assigns_ok t ws h) (assigns_ok x (variables t (length ws)) (variables_ok sc own t (length ws)))
 
   -- so many words behind an address, no more than a function weighs
@@ -129,11 +138,21 @@ module _ (sc : Scope) (own : ℕ) where
       (ap (list_all (is_right sc own)) (mentions_store_word (far a i) w) ∙ ok_append sc own (mentioned (far a i)) (mentioned w) (far_ok sc own a i (omega (arith, le)) ha) h.0)
       (stores_ok a (suc i) ws (omega (arith, le)) ha h.1)
 
+  stored_words_ok : (a : ℕ) (ws : List Expr) (t : ℕ) → length ws ≤ 16384 → WordsOk sc own ws → MentionsOk (stored_words a ws t)
+  stored_words_ok a ws t le h = by (list_any reads_memory ws)
+    where
+      by : (b : Bool) → MentionsOk (if b then assign_row t ws ++ store_row (e.Var a) 0 (variables t (length ws)) else store_row (e.Var a) 0 ws)
+      by true =
+          let vs = variables t (length ws) in
+          let n = count_variables t (length ws) in
+          stmts_append (assign_row t ws) (store_row (e.Var a) 0 vs) (assigns_ok t ws h) (stores_ok (e.Var a) 0 vs (omega (arith, n, le)) (var_ok sc own a) (variables_ok sc own t (length ws)))
+      by false = stores_ok (e.Var a) 0 ws (omega (arith, le)) (var_ok sc own a) h
+
   stored_ok : (a : Expr) (rs : List Row) (t : ℕ) → length (inlined rs) ≤ 16384 → WordOk sc own a → RowsOk sc own rs → MentionsOk (stored a rs t)
   stored_ok a rs t le ha h = by (nat_le (length (settle rs (suc t)).words) 1)
     where
       by : (b : Bool) → let q = settle rs (suc t) in
-          MentionsOk (if b then q.before ++ store_row a 0 q.words else stmt.Assign t a ∷ (q.before ++ (assign_row q.next q.words ++ store_row (e.Var t) 0 (variables q.next (length q.words)))))
+          MentionsOk (if b then q.before ++ store_row a 0 q.words else stmt.Assign t a ∷ (q.before ++ stored_words t q.words q.next))
       by true =
           let q = settle rs (suc t) in
           let s = settled_ok rs (suc t) h in
@@ -145,11 +164,8 @@ module _ (sc : Scope) (own : ℕ) where
           let s = settled_ok rs (suc t) h in
           let w = settled_well rs (suc t) in
           let z = w.size in
-          let vs = variables q.next (length q.words) in
-          let n = count_variables q.next (length q.words) in
-          more_ok (stmt.Assign t a) (q.before ++ (assign_row q.next q.words ++ store_row (e.Var t) 0 vs)) (ap (list_all (is_right sc own)) (mentions_assign t a) ∙ ha)
-          (stmts_append q.before (assign_row q.next q.words ++ store_row (e.Var t) 0 vs) s.before
-          (stmts_append (assign_row q.next q.words) (store_row (e.Var t) 0 vs) (assigns_ok q.next q.words s.words) (stores_ok (e.Var t) 0 vs (omega (arith, n, z, le)) (var_ok sc own t) (variables_ok sc own q.next (length q.words)))))
+          let rest = stored_words t q.words q.next in
+          more_ok (stmt.Assign t a) (q.before ++ rest) (ap (list_all (is_right sc own)) (mentions_assign t a) ∙ ha) (stmts_append q.before rest s.before (stored_words_ok t q.words q.next (omega (arith, z, le)) s.words))
 
   -- the last of some statements
   last_ok : (rs : List Row) (t : ℕ) (last : Stmt) → RowsOk sc own rs → AreOk sc own (mentions last) → AreOk sc own (mentions (stmt.Seq ((settle rs t).before ++ last ∷ [])))

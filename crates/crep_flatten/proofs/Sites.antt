@@ -1,6 +1,7 @@
 -- A program in words has the source's face and sites.
-use Rattle.std.proofs.Common.{◌≡◌, ℕ, suc, ◌+◌, Bool, true, false, ◌||◌, List, [], ◌∷◌, ◌++◌, map, length, append_assoc, append-nil, Option, Some, None, refl, sym, ap, ◌∙◌}
+use Rattle.std.proofs.Common.{◌≡◌, ℕ, suc, ◌+◌, Bool, true, false, List, [], ◌∷◌, ◌++◌, map, length, append_assoc, append-nil, Option, Some, None, refl, sym, ap, ◌∙◌}
 use Rattle.std.specs.Prelude.{flat_map, nat_le, if◌then◌else◌, replicate}
+use Rattle.std.specs.List.{list_any}
 use Rattle.pan_stage.specs.Stage.{Site}
 use Rattle.pan_stage.specs.Stage as site
 use Rattle.pan_tree.specs.Scopes.{innermost}
@@ -32,7 +33,8 @@ use Rattle.crep_flatten.specs.declared.rows.Row.{Row}
 use Rattle.crep_flatten.specs.declared.rows.Row.TheVariants as row
 use Rattle.crep_flatten.specs.Rows.{far, loads, variables, settle}
 use Rattle.crep_flatten.specs.Flat.{Places, count, flat, word_in}
-use Rattle.crep_flatten.specs.Flattened.{assign_row, store_row, reads_none, moved, assigned, stored, flat_all, Flattening, flattening, flat_layer, flat_stmt, after_target, results, new_place, place_at, with_parameters, numbered, rows_of, exception_shape, cleared, flat_function, flattened}
+use Rattle.crep_flatten.specs.Reads.{is_variable, go_straight, reads_memory}
+use Rattle.crep_flatten.specs.Flattened.{assign_row, store_row, one_move, moves, moved, assigned, stored_words, stored, flat_all, Flattening, flattening, flat_layer, flat_stmt, after_target, results, new_place, place_at, with_parameters, numbered, rows_of, exception_shape, cleared, flat_function, flattened}
 use Rattle.crep_flatten.specs.Source as source_stage
 use Rattle.crep_flatten.specs.Source.{block_sites, sites_layer, face}
 use Rattle.crep_flatten.proofs.Places.{stmt_roll}
@@ -80,23 +82,38 @@ settled_none (row.Loads a i n ∷ rs) t = by (nat_le 2 n) (settled_none rs t) (s
     by true h h' = ap (λ zs. zs ++ sites_in (settle rs (suc t)).before) (sites_assign t a) ∙ h'
     by false h h' = h
 
-moved_none : (x : ℕ) (ws : List Expr) (t : ℕ) → sites_in (moved x ws t) ≡ []
-moved_none x ws t = by (nat_le (length ws) 1 || reads_none x (length ws) ws)
+moves_none : (x : ℕ) (ws : List Expr) → sites_in (moves x ws) ≡ []
+moves_none x [] = refl
+moves_none x (w ∷ ws) = none_before (one_move x w) (moves (suc x) ws) (by (is_variable w x)) ∙ moves_none (suc x) ws
   where
-    by : (b : Bool) → sites_in (if b then assign_row x ws else assign_row t ws ++ assign_row x (variables t (length ws))) ≡ []
-    by true = assigns_none x ws
+    by : (b : Bool) → sites_in (if b then [] else stmt.Assign x w ∷ []) ≡ []
+    by true = refl
+    by false = ap (λ zs. zs ++ []) (sites_assign x w)
+
+moved_none : (x : ℕ) (ws : List Expr) (t : ℕ) → sites_in (moved x ws t) ≡ []
+moved_none x ws t = by (go_straight x 0 ws)
+  where
+    by : (b : Bool) → sites_in (if b then moves x ws else assign_row t ws ++ assign_row x (variables t (length ws))) ≡ []
+    by true = moves_none x ws
     by false = none_before (assign_row t ws) (assign_row x (variables t (length ws))) (assigns_none t ws) ∙ assigns_none x (variables t (length ws))
+
+stored_words_none : (a : ℕ) (ws : List Expr) (t : ℕ) → sites_in (stored_words a ws t) ≡ []
+stored_words_none a ws t = by (list_any reads_memory ws)
+  where
+    by : (b : Bool) → sites_in (if b then assign_row t ws ++ store_row (e.Var a) 0 (variables t (length ws)) else store_row (e.Var a) 0 ws) ≡ []
+    by true = none_before (assign_row t ws) (store_row (e.Var a) 0 (variables t (length ws))) (assigns_none t ws) ∙ stores_none (e.Var a) 0 (variables t (length ws))
+    by false = stores_none (e.Var a) 0 ws
 
 stored_none : (a : Expr) (rs : List Row) (t : ℕ) → sites_in (stored a rs t) ≡ []
 stored_none a rs t = by (nat_le (length (settle rs (suc t)).words) 1)
   where
     by : (b : Bool) → let q = settle rs (suc t) in
-        sites_in (if b then q.before ++ store_row a 0 q.words else stmt.Assign t a ∷ (q.before ++ (assign_row q.next q.words ++ store_row (e.Var t) 0 (variables q.next (length q.words))))) ≡ []
+        sites_in (if b then q.before ++ store_row a 0 q.words else stmt.Assign t a ∷ (q.before ++ stored_words t q.words q.next)) ≡ []
     by true = let q = settle rs (suc t) in none_before q.before (store_row a 0 q.words) (settled_none rs (suc t)) ∙ stores_none a 0 q.words
     by false =
         let q = settle rs (suc t) in
-        let vs = variables q.next (length q.words) in
-        ap (λ zs. zs ++ sites_in (q.before ++ (assign_row q.next q.words ++ store_row (e.Var t) 0 vs))) (sites_assign t a) ∙ none_before q.before (assign_row q.next q.words ++ store_row (e.Var t) 0 vs) (settled_none rs (suc t)) ∙ none_before (assign_row q.next q.words) (store_row (e.Var t) 0 vs) (assigns_none q.next q.words) ∙ stores_none (e.Var t) 0 vs
+        let rest = stored_words t q.words q.next in
+        ap (λ zs. zs ++ sites_in (q.before ++ rest)) (sites_assign t a) ∙ none_before q.before rest (settled_none rs (suc t)) ∙ stored_words_none t q.words q.next
 
 cleared_none : (t : Target) (s : Shape) (here : Places) → sites_in (cleared t s here) ≡ []
 cleared_none target.Nothing s here = refl

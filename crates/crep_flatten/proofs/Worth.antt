@@ -1,6 +1,7 @@
 -- What rows of statements are worth in steps.
-use Rattle.std.proofs.Common.{◌≡◌, ℕ, zero, suc, ◌+◌, ◌*◌, ◌≤◌, ◌||◌, Bool, true, false, List, [], ◌∷◌, ◌++◌, length, replicate, arith, refl, ap}
+use Rattle.std.proofs.Common.{◌≡◌, ℕ, zero, suc, ◌+◌, ◌*◌, ◌≤◌, Bool, true, false, List, [], ◌∷◌, ◌++◌, length, replicate, arith, refl, ap}
 use Rattle.std.specs.Prelude.{if◌then◌else◌, nat_le}
+use Rattle.std.specs.List.{list_any}
 use Rattle.std.proofs.lemmas.Bool.Decides.{nat_tests}
 use Rattle.crep_lang.specs.Steps.{expr_steps, row_steps}
 use Rattle.crep_lang.specs.declared.syntax.Expr.{Expr}
@@ -10,7 +11,8 @@ use Rattle.crep_lang.proofs.Exprs.{steps_num, steps_var}
 use Rattle.crep_lang.proofs.Sizes.{code_assign, code_store_word}
 use Rattle.crep_flatten.specs.declared.rows.Row.{Row}
 use Rattle.crep_flatten.specs.Rows.{far, inlined, variables, settle}
-use Rattle.crep_flatten.specs.Flattened.{assign_row, store_row, reads_none, moved, assigned, stored}
+use Rattle.crep_flatten.specs.Reads.{is_variable, go_straight, reads_memory}
+use Rattle.crep_flatten.specs.Flattened.{assign_row, store_row, one_move, moves, moved, assigned, stored_words, stored}
 use Rattle.crep_flatten.proofs.RowWords.{count_variables}
 use Rattle.crep_flatten.proofs.FlatExprs.{all_code, all_code_append}
 use Rattle.crep_flatten.proofs.Costs.{sum_steps, rows_worth, settled_well, variables_steps, far_steps}
@@ -32,11 +34,23 @@ pub row_worth : (ws : List Expr) → row_steps ws ≡ length ws + sum_steps ws
 row_worth [] = refl
 row_worth (w ∷ ws) = let r = row_worth ws in omega (arith, r)
 
-moved_worth : (x : ℕ) (ws : List Expr) (t : ℕ) → all_code (moved x ws t) ≤ sum_steps ws + 3 * length ws
-moved_worth x ws t = by (nat_le (length ws) 1 || reads_none x (length ws) ws)
+moves_worth : (x : ℕ) (ws : List Expr) → all_code (moves x ws) ≤ length ws + sum_steps ws
+moves_worth x [] = omega arith
+moves_worth x (w ∷ ws) =
+    let a = all_code_append (one_move x w) (moves (suc x) ws) in
+    let b = by (is_variable w x) in
+    let c = moves_worth (suc x) ws in
+    omega (arith, a, b, c)
   where
-    by : (b : Bool) → all_code (if b then assign_row x ws else assign_row t ws ++ assign_row x (variables t (length ws))) ≤ sum_steps ws + 3 * length ws
-    by true = let a = assign_worth x ws in omega (arith, a)
+    by : (b : Bool) → all_code (if b then [] else stmt.Assign x w ∷ []) ≤ 1 + expr_steps w
+    by true = omega arith
+    by false = let c = code_assign x w in omega (arith, c)
+
+moved_worth : (x : ℕ) (ws : List Expr) (t : ℕ) → all_code (moved x ws t) ≤ sum_steps ws + 3 * length ws
+moved_worth x ws t = by (go_straight x 0 ws)
+  where
+    by : (b : Bool) → all_code (if b then moves x ws else assign_row t ws ++ assign_row x (variables t (length ws))) ≤ sum_steps ws + 3 * length ws
+    by true = let a = moves_worth x ws in omega (arith, a)
     by false =
         let vs = variables t (length ws) in
         let a = all_code_append (assign_row t ws) (assign_row x vs) in
@@ -66,12 +80,32 @@ declared_worth x rs t =
     let d = w.size in
     omega (arith, a, b, c, d)
 
+stored_words_worth : (a : ℕ) (ws : List Expr) (t : ℕ) → all_code (stored_words a ws t) ≤ sum_steps ws + 6 * length ws
+stored_words_worth a ws t = by (list_any reads_memory ws)
+  where
+    vs : List Expr
+    vs = variables t (length ws)
+
+    by : (b : Bool) → all_code (if b then assign_row t ws ++ store_row (e.Var a) 0 vs else store_row (e.Var a) 0 ws) ≤ sum_steps ws + 6 * length ws
+    by true =
+        let x = all_code_append (assign_row t ws) (store_row (e.Var a) 0 vs) in
+        let y = assign_worth t ws in
+        let z = store_worth (e.Var a) 0 vs in
+        let four : length vs * (3 + expr_steps (e.Var a)) ≡ length vs * 4 = ap (λ k. length vs * (3 + k)) (steps_var a) in
+        let i = count_variables t (length ws) in
+        let j = variables_steps t (length ws) in
+        omega (arith, x, y, z, four, i, j)
+    by false =
+        let z = store_worth (e.Var a) 0 ws in
+        let four : length ws * (3 + expr_steps (e.Var a)) ≡ length ws * 4 = ap (λ k. length ws * (3 + k)) (steps_var a) in
+        omega (arith, z, four)
+
 pub stored_worth : (a : Expr) (rs : List Row) (t : ℕ) → all_code (stored a rs t) ≤ 3 + expr_steps a + rows_worth rs + 6 * length (inlined rs)
 stored_worth a rs t = by (nat_le (length (settle rs (suc t)).words) 1) (λ b. grind (arith, nat_tests, b))
   where
     by : (b : Bool) → (b ≡ true → length (settle rs (suc t)).words ≤ 1)
         → let q = settle rs (suc t) in
-        all_code (if b then q.before ++ store_row a 0 q.words else stmt.Assign t a ∷ (q.before ++ (assign_row q.next q.words ++ store_row (e.Var t) 0 (variables q.next (length q.words))))) ≤ 3 + expr_steps a + rows_worth rs + 6 * length (inlined rs)
+        all_code (if b then q.before ++ store_row a 0 q.words else stmt.Assign t a ∷ (q.before ++ stored_words t q.words q.next)) ≤ 3 + expr_steps a + rows_worth rs + 6 * length (inlined rs)
     by true few =
         let q = settle rs (suc t) in
         let w = settled_well rs (suc t) in
@@ -88,20 +122,12 @@ stored_worth a rs t = by (nat_le (length (settle rs (suc t)).words) 1) (λ b. gr
     by false few =
         let q = settle rs (suc t) in
         let w = settled_well rs (suc t) in
-        let n = length q.words in
-        let vs = variables q.next n in
         let s = code_assign t a in
-        let x = all_code_append q.before (assign_row q.next q.words ++ store_row (e.Var t) 0 vs) in
-        let y = all_code_append (assign_row q.next q.words) (store_row (e.Var t) 0 vs) in
-        let z = assign_worth q.next q.words in
-        let u = store_worth (e.Var t) 0 vs in
-        let v = steps_var t in
-        let four : length vs * (3 + expr_steps (e.Var t)) ≡ length vs * 4 = ap (λ k. length vs * (3 + k)) v in
-        let i = count_variables q.next n in
-        let j = variables_steps q.next n in
+        let x = all_code_append q.before (stored_words t q.words q.next) in
+        let y = stored_words_worth t q.words q.next in
         let c = w.worth in
         let d = w.size in
-        omega (arith, s, x, y, z, u, four, i, j, c, d)
+        omega (arith, s, x, y, c, d)
 
 pub cleared_worth : (x n : ℕ) → all_code (assign_row x (replicate n (e.Num 0))) ≡ 2 * n
 cleared_worth x zero = refl

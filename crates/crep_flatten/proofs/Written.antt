@@ -1,7 +1,7 @@
 -- In words each variable that is read was written before, on each way.
 use Rattle.std.proofs.Common.{◌≡◌, ◌≢◌, ◌⊎◌, ℕ, zero, suc, ◌+◌, ◌≤◌, ◌<◌, ◌||◌, ◌&&◌, not, Bool, true, false, List, [], ◌∷◌, ◌++◌, map, length, replicate, append-nil, Option, Some, None, arith, refl, sym, ap, subst, ◌∙◌}
 use Rattle.std.specs.Prelude.{nat_le, nat_lt, nat_eq, if◌then◌else◌}
-use Rattle.std.specs.List.{All}
+use Rattle.std.specs.List.{All, list_any}
 use Rattle.std.specs.Option.{option_map_or}
 use Rattle.std.proofs.Math.Logic.{inl, inr}
 use Rattle.std.proofs.lemmas.Bool.Decides.{nat_tests}
@@ -42,8 +42,8 @@ use Rattle.crep_lang.proofs.Texts.{flow_skip, flow_seq, flow_store_byte, flow_if
 use Rattle.crep_flatten.specs.declared.rows.Row.{Row}
 use Rattle.crep_flatten.specs.Rows.{variables, settle}
 use Rattle.crep_flatten.specs.Flat.{Places, count, flat, word_in}
-use Rattle.crep_flatten.specs.Flattened.{assign_row, store_row, reads_none, moved, stored, flat_all, Flattening, flattening, flat_layer, flat_stmt, after_target, results, new_place, place_at, numbered, rows_of, exception_shape, cleared, with_parameters, flat_function, flattened}
-use Rattle.crep_flatten.proofs.RowWords.{count_variables}
+use Rattle.crep_flatten.specs.Reads.{is_variable, go_straight, reads_memory}
+use Rattle.crep_flatten.specs.Flattened.{assign_row, store_row, one_move, moves, moved, stored_words, stored, flat_all, Flattening, flattening, flat_layer, flat_stmt, after_target, results, new_place, place_at, numbered, rows_of, exception_shape, cleared, with_parameters, flat_function, flattened}
 use Rattle.crep_flatten.proofs.Costs.{Static, settled_well}
 use Rattle.crep_flatten.proofs.Places.{static_behind, static_block, static_target, static_more, stmt_roll}
 use Rattle.crep_flatten.proofs.CodeFits.{at, value_is, cheap_at}
@@ -66,11 +66,19 @@ less_or x n Goal f g = by (nat_lt x n) (λ b. grind (arith, nat_tests, b)) (λ b
     by true p q = f (p refl)
     by false p q = g (q refl)
 
-moved_passes : (x y : ℕ) (ws : List Expr) (t : ℕ) → Unread x ws → Passes x (moved y ws t)
-moved_passes x y ws t h = by (nat_le (length ws) 1 || reads_none y (length ws) ws)
+moves_pass : (x y : ℕ) (ws : List Expr) → Unread x ws → Passes x (moves y ws)
+moves_pass x y [] h = record { at = λ ts k g. g }
+moves_pass x y (w ∷ ws) h = then_pass x (one_move y w) (moves (suc y) ws) (by (is_variable w y)) (moves_pass x (suc y) ws h.1)
   where
-    by : (b : Bool) → Passes x (if b then assign_row y ws else assign_row t ws ++ assign_row y (variables t (length ws)))
-    by true = assigns_pass x y ws h
+    by : (b : Bool) → Passes x (if b then [] else stmt.Assign y w ∷ [])
+    by true = record { at = λ ts k g. g }
+    by false = record { at = λ ts k g. assign_dry x y w (turn x ts k) k h.0 g }
+
+moved_passes : (x y : ℕ) (ws : List Expr) (t : ℕ) → Unread x ws → Passes x (moved y ws t)
+moved_passes x y ws t h = by (go_straight y 0 ws)
+  where
+    by : (b : Bool) → Passes x (if b then moves y ws else assign_row t ws ++ assign_row y (variables t (length ws)))
+    by true = moves_pass x y ws h
     by false =
         let vs = variables t (length ws) in
         less_or x t _ (λ l. then_pass x (assign_row t ws) (assign_row y vs) (assigns_pass x t ws h) (assigns_pass x y vs (variables_unread x t (length ws) (inl l)))) (λ l.
@@ -108,6 +116,16 @@ through x n ws ts h f =
     append_same [] ts us = refl
     append_same (s ∷ ss) ts us = ap (λ zs. s ∷ zs) (append_same ss ts us)
 
+stored_words_pass : (x a : ℕ) (ws : List Expr) (t : ℕ) → a ≢ x → Unread x ws → Passes x (stored_words a ws t)
+stored_words_pass x a ws t ne h = by (list_any reads_memory ws)
+  where
+    unread : has (variables_read (e.Var a)) x ≡ false
+    unread = var_unread x a (λ s. ne (sym s))
+
+    by : (b : Bool) → Passes x (if b then assign_row t ws ++ store_row (e.Var a) 0 (variables t (length ws)) else store_row (e.Var a) 0 ws)
+    by true = let vs = variables t (length ws) in through x t ws (store_row (e.Var a) 0 vs) h (λ o. stores_pass x (e.Var a) 0 vs unread (variables_unread x t (length ws) o))
+    by false = stores_pass x (e.Var a) 0 ws unread h
+
 stored_passes : (i k c x : ℕ) (a : Expr) (rs : List Row) (t : ℕ) → has (variables_read a) x ≡ false → RowsLow k c rs → c ≤ t → c ≤ x → Passes x (stored a rs t)
 stored_passes i k c x a rs t ha low le lx = by (nat_le (length (settle rs (suc t)).words) 1)
   where
@@ -131,15 +149,14 @@ stored_passes i k c x a rs t ha low le lx = by (nat_le (length (settle rs (suc t
         same false p q = let z = f (q refl) in record { at = λ us e g. assign_dry x t a (turn x (ss ++ us) e) e ha (z.at us e g) }
 
     by : (b : Bool) → let q = settle rs (suc t) in
-        Passes x (if b then q.before ++ store_row a 0 q.words else stmt.Assign t a ∷ (q.before ++ (assign_row q.next q.words ++ store_row (e.Var t) 0 (variables q.next (length q.words)))))
+        Passes x (if b then q.before ++ store_row a 0 q.words else stmt.Assign t a ∷ (q.before ++ stored_words t q.words q.next))
     by true =
         let q = settle rs (suc t) in
         less_or x (suc t) _ (λ l. then_pass x q.before (store_row a 0 q.words) (settled_pass k c x rs (suc t) low lx) (stores_pass x a 0 q.words ha (settled_unread k c x rs (suc t) low lx (inl l)))) (λ l. behind (store_row a 0 q.words) (λ s. omega (arith, l, s)) (λ u. stores_pass x a 0 q.words ha u))
     by false =
         let q = settle rs (suc t) in
-        let vs = variables q.next (length q.words) in
-        let n = count_variables q.next (length q.words) in
-        at_t (q.before ++ (assign_row q.next q.words ++ store_row (e.Var t) 0 vs)) (λ ne. behind (assign_row q.next q.words ++ store_row (e.Var t) 0 vs) ne (λ u. through x q.next q.words (store_row (e.Var t) 0 vs) u (λ o. stores_pass x (e.Var t) 0 vs (var_unread x t (λ s. ne (sym s))) (variables_unread x q.next (length q.words) o))))
+        let rest = stored_words t q.words q.next in
+        at_t (q.before ++ rest) (λ ne. behind rest ne (λ u. stored_words_pass x t q.words q.next ne u))
 
 -- what isn't live behind a statement that breaks out nowhere
 pub record Outside (n x : ℕ) (exit : Exit → Bool) : Type 0 where

@@ -14,17 +14,14 @@ use Rattle.pan_tree.specs.declared.syntax.ExprKind.TheOpen as source
 use Rattle.check_soundness.specs.Spread.{spread}
 use Rattle.crep_lang.specs.declared.syntax.Expr.{Expr}
 use Rattle.crep_lang.specs.declared.syntax.Expr.TheVariants as e
-use Rattle.crep_flatten.specs.declared.rows.Row.{Row}
+pub use Rattle.crep_flatten.specs.declared.exprs.Flat.{Flat}
 use Rattle.crep_flatten.specs.declared.rows.Row.TheVariants as row
+pub use Rattle.crep_flatten.specs.declared.scopes.Place.{Place}
 use Rattle.crep_flatten.specs.Rows.{inlined, cut_rows}
 
 -- ---- places
 
--- where a variable's words are, and its shape, in which a struct of words is a group
-pub record Place : Type 0 where
-  pub first : ℕ
-  pub shape : Shape
-
+-- the variables of the blocks that are open, with their places
 abbrev pub Places : Type 0
 Places = ScopesOf Place
 
@@ -39,11 +36,6 @@ count (scope ∷ scopes) = count scopes + scope_words scope
 
 -- ---- expressions
 
--- an expression in words, of a shape in which a struct of words is a group
-pub record Flat : Type 0 where
-  pub shape : Shape
-  pub rows : List Row
-
 abbrev pub one : Expr → Flat
 one x = record { shape = shape.Word; rows = row.One x ∷ [] }
 
@@ -57,6 +49,10 @@ word_in f = first_of (inlined f.rows)
 
 abbrev pub cut_flat : ℕ → Shape → Flat → Flat
 cut_flat skip s f = record { shape = s; rows = cut_rows skip (words_of s) f.rows }
+
+-- a struct of these
+abbrev pub struct_of : List Flat → Flat
+struct_of parts = record { shape = shape.Group (map (λ f. f.shape) parts); rows = flat_map (λ f. f.rows) parts }
 
 -- what isn't there
 abbrev pub nothing : Flat
@@ -95,9 +91,7 @@ flat_layer (source.Number n) here = one (e.Num n)
 flat_layer (source.Var x) here = variable_at (innermost x here)
 flat_layer source.Base here = one (e.Num base_address)
 flat_layer source.Biw here = one (e.Num bytes_in_word)
-flat_layer (source.Struct xs) here =
-    let parts = map (λ (x : Spanned (Places → Flat)). x.kind here) xs in
-    record { shape = shape.Group (map (λ f. f.shape) parts); rows = flat_map (λ f. f.rows) parts }
+flat_layer (source.Struct xs) here = struct_of (map (λ (x : Spanned (Places → Flat)). x.kind here) xs)
 flat_layer (source.Field x is) here = parts_at is (x.kind here)
 flat_layer (source.Load s a) here = loaded s (word_in (a.kind here))
 flat_layer (source.LoadByte a) here = one (e.LoadByte (word_in (a.kind here)))

@@ -1,6 +1,6 @@
 -- A program in words.
-use Rattle.std.specs.Prelude.{ℕ, suc, ◌+◌, nat_le, nat_lt, ◌||◌, Bool, if◌then◌else◌, List, [], ◌∷◌, ◌++◌, map, flat_map, length, replicate, codes, Option, Some, None}
-use Rattle.std.specs.List.{list_all}
+use Rattle.std.specs.Prelude.{ℕ, suc, ◌+◌, nat_le, if◌then◌else◌, List, [], ◌∷◌, ◌++◌, map, flat_map, length, replicate, codes, Option, Some, None}
+use Rattle.std.specs.List.{list_any}
 use Rattle.pan_stage.specs.Locals.{numbers_from}
 use Rattle.pan_stage.specs.declared.program.Handler.{Handler}
 use Rattle.pan_stage.specs.declared.program.Program.{Program}
@@ -22,7 +22,6 @@ use Rattle.pan_tree.specs.declared.program.Exception.{Exception}
 use Rattle.pan_tree.specs.declared.program.Function.{Function}
 use Rattle.pan_tree.specs.declared.program.Program.{Program as Source}
 use Rattle.check_soundness.specs.Spread.{spread}
-use Rattle.crep_lang.specs.Text.{variables_read}
 use Rattle.crep_lang.specs.declared.syntax.CrepFun.{CrepFun}
 use Rattle.crep_lang.specs.declared.syntax.Expr.{Expr}
 use Rattle.crep_lang.specs.declared.syntax.Expr.TheVariants as e
@@ -31,6 +30,7 @@ use Rattle.crep_lang.specs.declared.syntax.Stmt.TheVariants as stmt
 use Rattle.crep_flatten.specs.declared.rows.Row.{Row}
 use Rattle.crep_flatten.specs.Rows.{far, variables, settle}
 use Rattle.crep_flatten.specs.Flat.{Place, Places, count, Flat, word_in, flat}
+use Rattle.crep_flatten.specs.Reads.{is_variable, go_straight, reads_memory}
 
 -- ---- rows of statements
 
@@ -44,23 +44,32 @@ abbrev pub store_row : Expr → ℕ → List Expr → List Stmt
 store_row a i [] = []
 store_row a i (w ∷ ws) = stmt.StoreWord (far a i) w ∷ store_row a (suc i) ws
 
--- these words read none of so many variables from this one on
-abbrev pub reads_none : ℕ → ℕ → List Expr → Bool
-reads_none x n ws = list_all (λ w. list_all (λ y. nat_lt y x || nat_le (x + n) y) (variables_read w)) ws
+-- a word to a variable, which isn't given what it has
+abbrev pub one_move : ℕ → Expr → List Stmt
+one_move x w = if is_variable w x then [] else stmt.Assign x w ∷ []
 
--- words to variables that they don't read, or through others from a free one on
+-- each word to the next variable, from this one on
+abbrev pub moves : ℕ → List Expr → List Stmt
+moves x [] = []
+moves x (w ∷ ws) = one_move x w ++ moves (suc x) ws
+
+-- words to variables, one after another; through others from a free one on, where a word reads a variable that one before it goes to
 abbrev pub moved : ℕ → List Expr → ℕ → List Stmt
-moved x ws t = if nat_le (length ws) 1 || reads_none x (length ws) ws then assign_row x ws else assign_row t ws ++ assign_row x (variables t (length ws))
+moved x ws t = if go_straight x 0 ws then moves x ws else assign_row t ws ++ assign_row x (variables t (length ws))
 
 abbrev pub assigned : ℕ → List Row → ℕ → List Stmt
 assigned x rs t = let g = settle rs t in g.before ++ moved x g.words g.next
 
--- Words to memory that they may read: through variables, if there is more than one. Their address is computed once.
+-- words to memory from the address in a variable on, one after another; through variables from a free one on, where a word reads memory
+abbrev pub stored_words : ℕ → List Expr → ℕ → List Stmt
+stored_words a ws t = if list_any reads_memory ws then assign_row t ws ++ store_row (e.Var a) 0 (variables t (length ws)) else store_row (e.Var a) 0 ws
+
+-- words to memory, whose address is computed once, if there is more than one
 abbrev pub stored : Expr → List Row → ℕ → List Stmt
 stored a rs t =
     let g = settle rs (suc t) in
     if nat_le (length g.words) 1 then g.before ++ store_row a 0 g.words
-    else stmt.Assign t a ∷ (g.before ++ (assign_row g.next g.words ++ store_row (e.Var t) 0 (variables g.next (length g.words))))
+    else stmt.Assign t a ∷ (g.before ++ stored_words t g.words g.next)
 
 -- the rows of several
 abbrev pub rows_of : List Flat → List Row
@@ -113,12 +122,15 @@ abbrev pub exception_shape : Option Exception → Shape
 exception_shape None = shape.Word
 exception_shape (Some x) = spread x.shape
 
--- the handler, before whose block these statements stand
+-- a handler, before whose block these statements stand
+abbrev pub caught : HandlerOf (Spanned Flattening) → List Stmt → Source → Places → Handler Stmt
+caught h before p here =
+    let s = exception_shape (exception_of h.exception p) in
+    record { exception = numbered (exception_index h.exception p); variables = numbers_from (count here) (words_of s); body = block ((h.name, new_place s here) ∷ []) before h.body p here }
+
 abbrev pub handler : Option (HandlerOf (Spanned Flattening)) → List Stmt → Source → Places → Option (Handler Stmt)
 handler None before p here = None
-handler (Some h) before p here =
-    let s = exception_shape (exception_of h.exception p) in
-    Some (record { exception = numbered (exception_index h.exception p); variables = numbers_from (count here) (words_of s); body = block ((h.name, new_place s here) ∷ []) before h.body p here })
+handler (Some h) before p here = Some (caught h before p here)
 
 abbrev pub flat_layer : StmtKind-F Flattening → Flattening
 flat_layer source.Skip p here = (stmt.Skip, here)
@@ -155,6 +167,17 @@ flat_stmt = fold-StmtKind Flattening flat_layer
 
 abbrev pub flattening : Spanned StmtKind → Spanned Flattening
 flattening x = record { kind = flat_stmt x.kind; span = x.span }
+
+-- the parts of a statement
+abbrev pub block_flattening : BlockOf (Spanned StmtKind) → BlockOf (Spanned Flattening)
+block_flattening b = record { stmts = map flattening b.stmts }
+
+abbrev pub caught_flattening : HandlerOf (Spanned StmtKind) → HandlerOf (Spanned Flattening)
+caught_flattening h = record { exception = h.exception; name = h.name; body = block_flattening h.body }
+
+abbrev pub handler_flattening : Option (HandlerOf (Spanned StmtKind)) → Option (HandlerOf (Spanned Flattening))
+handler_flattening None = None
+handler_flattening (Some h) = Some (caught_flattening h)
 
 -- ---- programs
 

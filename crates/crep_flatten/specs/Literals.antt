@@ -1,5 +1,5 @@
 -- The numbers of a source's text are words.
-use Rattle.std.specs.Prelude.{nat_lt, ◌^◌, ◌&&◌, Bool, true, Option, Some, None}
+use Rattle.std.specs.Prelude.{nat_lt, ◌^◌, ◌&&◌, Bool, true, List, Option, Some, None}
 use Rattle.std.specs.List.{list_all}
 use Rattle.pan_tree.specs.Nodes.{Expr}
 use Rattle.pan_tree.specs.declared.spanned.Spanned.{Spanned}
@@ -58,8 +58,16 @@ stmt_layer _ = true
 unfoldable pub stmt_fits : StmtKind → Bool
 stmt_fits = fold-StmtKind Bool stmt_layer
 
+abbrev pub stmts_fit : List (Spanned StmtKind) → Bool
+stmts_fit ss = list_all (λ (x : Spanned StmtKind). stmt_fits x.kind) ss
+
+-- each number of what catches an exception is a word
+abbrev pub caught_fits : Option (HandlerOf (Spanned StmtKind)) → Bool
+caught_fits None = true
+caught_fits (Some h) = stmts_fit (h.body).stmts
+
 abbrev pub function_fits : Function → Bool
-function_fits f = list_all (λ (x : Spanned StmtKind). stmt_fits x.kind) (f.body).stmts
+function_fits f = stmts_fit (f.body).stmts
 
 abbrev pub program_fits : Program → Bool
 program_fits p = list_all function_fits p.functions

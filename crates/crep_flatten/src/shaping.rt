@@ -2,7 +2,7 @@
 
 ghost use Rattle.std.specs.Prelude.{◌≡◌, map, replicate, IfOk};
 ghost use Rattle.check_soundness.specs.Spread as spreading;
-ghost use Rattle.pan_tree.specs.Shapes.{words_of};
+ghost use Rattle.pan_tree.specs.Shapes.{words_of, parts_of};
 ghost use Rattle.pan_tree.specs.declared.shape.Shape.TheVariants as shape;
 
 use pan_base::{List, NoMemory};
@@ -30,6 +30,18 @@ fn word_parts(alloc: Global, count: u64) -> Result<List<Shape>, NoMemory>
         left -= 1;
     }
     Ok(parts)
+}
+
+/// The shapes of the parts of a struct. A word has none.
+#[tactic(auto, using(crate::proofs::SpreadRules::parts_rules))]
+pub fn parts_of(alloc: Global, shape: Shape) -> Result<Option<List<Shape>>, NoMemory>
+    ensures { IfOk result (λ parts. parts ≡ parts_of shape) }
+{
+    match shape {
+        Shape::Word => Ok(None),
+        Shape::Words(count) => Ok(Some(word_parts(alloc, count)?)),
+        Shape::Group(parts) => Ok(Some(parts)),
+    }
 }
 
 /// The same shape, with a group of words for each struct of so many words.

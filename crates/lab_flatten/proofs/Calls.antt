@@ -23,7 +23,7 @@ use Rattle.stack_lang.specs.Frame.{Frame, back_with}
 use Rattle.stack_lang.specs.Meaning.{World, Outcome, Callee, Does, more, after, caught, calls}
 use Rattle.lab_flatten.specs.Flatten.{slot_at, pushed, unwind_lines}
 use Rattle.lab_flatten.proofs.Hiding.{apart, SameSizes, hidden_2, hidden_8, hidden_9}
-use Rattle.lab_flatten.proofs.Machine.{Sets, sets_reg, sets_pc, word, SameFrom, same_word, IsMap, map_kept, IsWord, loads_word, stored, stores_word, stored_is, stored_keeps, plus_zero, plus_small, plus_down, Outer, sizes_on, sizes_is, outer_on, sets_outer, Kept, IsFrame, Ready, Begins, frame_word}
+use Rattle.lab_flatten.proofs.Machine.{Sets, sets_reg, sets_pc, word, SameFrom, same_word, IsMap, map_kept, IsWord, loads_word, stored, stores_word, stored_is, stored_keeps, plus_zero, plus_small, plus_down, Outer, sizes_on, sizes_is, outer_on, sets_outer, Kept, saved_same, IsFrame, Ready, Begins, frame_word}
 use Rattle.lab_flatten.proofs.Lines.{At, Here, Stands, stands_at, past_label, Goes, goes_on, step_plain, step_reg, branch_moved, Called, call_moved, address_goes, jump_back}
 use Rattle.lab_flatten.proofs.Lands.{Sees, Steps, steps_on, steps_goes, Returns, stops_by, stops_spent, Threw, Lands, Leaves, Enters, LandsFrom, after_comes}
 
@@ -48,8 +48,8 @@ pub record Home (front size : ℕ) (t : State) (x : Frame) (u : State) : Type 0 
   pub words : (b : ℕ) → reg t 2 + 8 * front ≤ b → word u b ≡ word t b
   pub link : word u (reg t 2) ≡ word t (reg t 2)
 
-pub home_kept : (front size : ℕ) (t : State) (x : Frame) (u : State) → Home front size t x u → Kept size t u
-home_kept front size t x u h = record { outer = h.outer; sp = h.sp; link = h.link }
+pub home_kept : (front size : ℕ) (t : State) (x : Frame) (u : State) → 0 < front → Home front size t x u → Kept front size t u
+home_kept front size t x u some h = record { outer = h.outer; sp = h.sp; link = saved_same front t u (λ none. absurd (omega (arith, none, some))) (λ more. ap (word u) h.sp ∙ h.link) }
 
 pub home_sees : (front size : ℕ) (t : State) (v x : Frame) (u : State) → Sees front size v t → Home front size t x u → Sees front size (back_with v x) u
 home_sees front size t v x u s h = record {
@@ -155,12 +155,12 @@ module _ (lines : List Line) (layout : List (ℕ × ℕ)) where
     pub pc : state.pc ≡ t.pc + 20
     pub goes : Goes lines layout t state 5
 
-  pub pushes : (front size n handler end : ℕ) (xs : List Line) (t : State) → IsFrame front size → front ≡ 3 → Ready size t → Stands lines layout t.pc (pushed n xs) end → At lines layout n handler → handler < 2 ^ 64 → Pushed handler t
+  pub pushes : (front size n handler end : ℕ) (xs : List Line) (t : State) → IsFrame front size → 3 ≤ front → Ready front size t → Stands lines layout t.pc (pushed n xs) end → At lines layout n handler → handler < 2 ^ 64 → Pushed handler t
   pushes front size n handler end xs t f three r h there small =
       let sp = reg t 2 in
       let low : sp ≤ 0x40000000 = (let a = r.frame in let b = (r.map).stack in omega arith) in
       let wide = f.wide in
-      let w8 = frame_word size 8 t r refl (omega arith) in
+      let w8 = frame_word front size 8 t r refl (omega arith) in
       let u1 = stored t (sp + 8) (reg t 8) in
       let d1 = stored_is t (sp + 8) (reg t 8) w8 in
       let g1 = step_plain lines layout (instr.S Sd 2 8 (pos 8)) (line.Address 9 n ∷ line.Plain (instr.S Sd 2 9 (pos 16)) ∷ line.Plain (instr.I Addi 8 2 (pos 8)) ∷ xs) end t u1 h
@@ -169,7 +169,7 @@ module _ (lines : List Line) (layout : List (ℕ × ℕ)) where
       let s2 = sets_reg 9 hidden_9 u1 handler (u1.pc + 8) r.count in
       let g2 = address_goes lines layout u1 n handler end (line.Plain (instr.S Sd 2 9 (pos 16)) ∷ line.Plain (instr.I Addi 8 2 (pos 8)) ∷ xs) g1.1 there in
       let sp2 : reg u2 2 ≡ sp = s2.other 2 (apart 2 9 refl) ∙ d1.regs 2 in
-      let w16 : IsWord u2 (sp + 16) = is_word_same u1 u2 (sp + 16) s2.memory (is_word_sized t u1 (sp + 16) d1.sizes (frame_word size 16 t r refl (omega arith))) in
+      let w16 : IsWord u2 (sp + 16) = is_word_same u1 u2 (sp + 16) s2.memory (is_word_sized t u1 (sp + 16) d1.sizes (frame_word front size 16 t r refl (omega arith))) in
       let u3 = stored u2 (sp + 16) (reg u2 9) in
       let d3 = stored_is u2 (sp + 16) (reg u2 9) w16 in
       let g3 = step_plain lines layout (instr.S Sd 2 9 (pos 16)) (line.Plain (instr.I Addi 8 2 (pos 8)) ∷ xs) end u2 u3 g2.1
@@ -213,8 +213,8 @@ module _ (lines : List Line) (layout : List (ℕ × ℕ)) where
     pub top : reg p 2 ≤ 0x20000000 + length (p.memory).stack
     pub newest : reg p 8 < 2 ^ 64
 
-  pub ready_caller : (size : ℕ) (t : State) → Ready size t → Caller t
-  ready_caller size t r = record { map = r.map; count = r.count; whole = r.whole; low = r.low; limit = r.limit; top = (let h = r.frame in omega arith); newest = r.newest }
+  pub ready_caller : (front size : ℕ) (t : State) → Ready front size t → Caller t
+  ready_caller front size t r = record { map = r.map; count = r.count; whole = r.whole; low = r.low; limit = r.limit; top = (let h = r.frame in omega arith); newest = r.newest }
 
   pub begins_of : (p c : State) (back : ℕ) → Caller p → Sets 1 back p c → back % 4 ≡ 0 → back < 2 ^ 64 → Begins c
   begins_of p c back r s whole small =
@@ -236,7 +236,7 @@ module _ (lines : List Line) (layout : List (ℕ × ℕ)) where
     -- ---- a call
 
     -- after a callee the caller's frame is as it was
-    called_home : (front size back to : ℕ) (t : State) (x : Frame) (c : Called lines layout t back to) (u : State) → Ready size t → hide u ≡ x.seen → reg u 2 ≡ reg (c.state) 2 → Outer (reg (c.state) 2) c.state u → Home front size t x u
+    called_home : (front size back to : ℕ) (t : State) (x : Frame) (c : Called lines layout t back to) (u : State) → Ready front size t → hide u ≡ x.seen → reg u 2 ≡ reg (c.state) 2 → Outer (reg (c.state) 2) c.state u → Home front size t x u
     called_home front size back to t x c u r seen sp outer =
         let s = c.sets in
         let two = s.other 2 (apart 2 1 refl) in
@@ -249,16 +249,16 @@ module _ (lines : List Line) (layout : List (ℕ × ℕ)) where
           link = same_word (reg (c.state) 2) (reg t 2) c.state u outer.above (omega arith) low ∙ word_same t c.state (reg t 2) s.memory;
         }
 
-    plain_left : (front size back to on out again : ℕ) (ms : Does) (v : Frame) (t : State) (w w3 : World) (c : Called lines layout t back to) → Ready size t → Sees front size v t → Steps lines layout t w c.state w3 → LandsFrom lines layout unwind_at front size ms back on out again
+    plain_left : (front size back to on out again : ℕ) → 0 < front → (ms : Does) (v : Frame) (t : State) (w w3 : World) (c : Called lines layout t back to) → Ready front size t → Sees front size v t → Steps lines layout t w c.state w3 → LandsFrom lines layout unwind_at front size ms back on out again
         → (o : Outcome (Unit {0}) Frame) → Leaves lines layout unwind_at o c.state w3 → Lands lines layout unwind_at front size (after_call w o (λ x w. ms (back_with v x) w) (λ i x w. Raised i x w)) t w on out again
-    plain_left front size back to on out again ms v t w w3 c r s a land (Normal x w') b = λ ok. absurd (ok refl)
-    plain_left front size back to on out again ms v t w w3 c r s a land (Broken x w') b = λ ok. absurd (ok refl)
-    plain_left front size back to on out again ms v t w w3 c r s a land (Continued x w') b = λ ok. absurd (ok refl)
-    plain_left front size back to on out again ms v t w w3 c r s a land (Returned x w') b =
+    plain_left front size back to on out again some ms v t w w3 c r s a land (Normal x w') b = λ ok. absurd (ok refl)
+    plain_left front size back to on out again some ms v t w w3 c r s a land (Broken x w') b = λ ok. absurd (ok refl)
+    plain_left front size back to on out again some ms v t w w3 c r s a land (Continued x w') b = λ ok. absurd (ok refl)
+    plain_left front size back to on out again some ms v t w w3 c r s a land (Returned x w') b =
         let h = called_home front size back to t x c b.state r b.seen b.sp b.outer in
         after_comes lines layout unwind_at front size ms t w (back_with v x) (back_in w w') back on out again r
-        (record { state = b.state; sees = home_sees front size t v x b.state s h; pc = b.pc ∙ (c.sets).value; kept = home_kept front size t x b.state h; by = steps_on lines layout t w c.state w3 b.state (back_in w w') a b.by }) land
-    plain_left front size back to on out again ms v t w w3 c r s a land (Raised i x w') b =
+        (record { state = b.state; sees = home_sees front size t v x b.state s h; pc = b.pc ∙ (c.sets).value; kept = home_kept front size t x b.state some h; by = steps_on lines layout t w c.state w3 b.state (back_in w w') a b.by }) land
+    plain_left front size back to on out again some ms v t w w3 c r s a land (Raised i x w') b =
         let two = (c.sets).other 2 (apart 2 1 refl) in
         record {
           state = b.state;
@@ -269,14 +269,14 @@ module _ (lines : List Line) (layout : List (ℕ × ℕ)) where
           outer = outer_on (reg t 2 + size) (reg (c.state) 2) t c.state b.state (sets_outer 1 back (reg t 2 + size) t c.state c.sets (apart 4 1 refl) (apart 8 1 refl)) b.outer (omega arith);
           by = steps_on lines layout t w c.state w3 b.state (back_in w w') a b.by;
         }
-    plain_left front size back to on out again ms v t w w3 c r s a land (Over e w') b = λ ok. stops_by lines layout t w c.state w3 e w' a (b ok)
+    plain_left front size back to on out again some ms v t w w3 c r s a land (Over e w') b = λ ok. stops_by lines layout t w c.state w3 e w' a (b ok)
 
     here_at : (f n at at' : ℕ) → at' ≡ at → Here lines layout (line.CallTo f) n at → Here lines layout (line.CallTo f) n at'
     here_at f n at at' e h = subst (λ a. Here lines layout (line.CallTo f) n a) (sym e) h
 
-    pub plain_call : (front size d : ℕ) (g : Callee) → Enters lines layout unwind_at g → (f n entry at on out again : ℕ) (ms : Does) → Here lines layout (line.CallTo f) n at → At lines layout f entry
+    pub plain_call : (front size d : ℕ) → 0 < front → (g : Callee) → Enters lines layout unwind_at g → (f n entry at on out again : ℕ) (ms : Does) → Here lines layout (line.CallTo f) n at → At lines layout f entry
         → LandsFrom lines layout unwind_at front size ms (at + 4 * n) on out again → LandsFrom lines layout unwind_at front size (calls size d g f ms None) at on out again
-    plain_call front size d g enters f n entry at on out again ms here there land t v e r s w = by w.fuel refl
+    plain_call front size d more g enters f n entry at on out again ms here there land t v e r s w = by w.fuel refl
       where
         by : (k : ℕ) → w.fuel ≡ k → Lands lines layout unwind_at front size (spend_of k w (λ w'. after_call w (after 2 g f v w') (λ x w. ms (back_with v x) w) (λ i x w. Raised i x w))) t w on out again
         by zero fuel = λ ok. stops_spent lines layout t w w refl refl refl
@@ -286,10 +286,10 @@ module _ (lines : List Line) (layout : List (ℕ × ℕ)) where
             let c = call_moved lines layout t f n entry r.count here' there in
             let some = c.some in let few = c.few in
             let back : t.pc + 4 * n ≡ at + 4 * n = ap (λ a. a + 4 * n) e in
-            plain_left front size (t.pc + 4 * n) entry on out again ms v t w w3 c r s
+            plain_left front size (t.pc + 4 * n) entry on out again more ms v t w w3 c r s
             (steps_goes lines layout t w c.state w3 c.steps c.goes refl refl (omega arith) (omega arith))
             (subst (λ a. LandsFrom lines layout unwind_at front size ms a on out again) (sym back) land)
-            (g f v w3) (enters f entry there c.state c.pc (begins_of t c.state (t.pc + 4 * n) (ready_caller size t r) c.sets here'.2 here'.3) v ((c.sets).seen ∙ s.seen) ((c.sets).other 2 (apart 2 1 refl) ∙ s.room) w3)
+            (g f v w3) (enters f entry there c.state c.pc (begins_of t c.state (t.pc + 4 * n) (ready_caller front size t r) c.sets here'.2 here'.3) v ((c.sets).seen ∙ s.seen) ((c.sets).other 2 (apart 2 1 refl) ∙ s.room) w3)
 
     -- ---- a call under a handler
 
@@ -304,8 +304,8 @@ module _ (lines : List Line) (layout : List (ℕ × ℕ)) where
       link : word u (reg t 2) ≡ word t (reg t 2)
       above : SameFrom (reg t 2 + 24) t u
 
-    guard_of : (size handler back to : ℕ) (t : State) (p : Pushed handler t) (c : Called lines layout p.state back to) (u : State) → Ready size t → Outer (reg (c.state) 2) c.state u → Guard handler t u
-    guard_of size handler back to t p c u r o =
+    guard_of : (front size handler back to : ℕ) (t : State) (p : Pushed handler t) (c : Called lines layout p.state back to) (u : State) → Ready front size t → Outer (reg (c.state) 2) c.state u → Guard handler t u
+    guard_of front size handler back to t p c u r o =
         let s = c.sets in
         let two : reg (c.state) 2 ≡ reg t 2 = s.other 2 (apart 2 1 refl) ∙ p.sp in
         let low = r.low in
@@ -321,7 +321,7 @@ module _ (lines : List Line) (layout : List (ℕ × ℕ)) where
           above = λ m le. o.above m (omega arith) ∙ ap (λ (y : Memory). drop m y.stack) s.memory ∙ p.above m le;
         }
 
-    guard_home : (front size handler : ℕ) (t u : State) (x : Frame) (u' : State) → front ≡ 3 → 8 * front ≤ size → 0x20000000 ≤ reg t 2 → Guard handler t u → hide u' ≡ x.seen → reg u' 2 ≡ reg t 2 → u'.memory ≡ u.memory → length u'.registers ≡ length u.registers → reg u' 4 ≡ reg u 4 → reg u' 8 ≡ reg t 8 → Home front size t x u'
+    guard_home : (front size handler : ℕ) (t u : State) (x : Frame) (u' : State) → 3 ≤ front → 8 * front ≤ size → 0x20000000 ≤ reg t 2 → Guard handler t u → hide u' ≡ x.seen → reg u' 2 ≡ reg t 2 → u'.memory ≡ u.memory → length u'.registers ≡ length u.registers → reg u' 4 ≡ reg u 4 → reg u' 8 ≡ reg t 8 → Home front size t x u'
     guard_home front size handler t u x u' three wide low g seen sp mem count limit newest = record {
       seen = seen;
       sp = sp;
@@ -336,12 +336,12 @@ module _ (lines : List Line) (layout : List (ℕ × ℕ)) where
       link = word_same u u' (reg t 2) mem ∙ g.link;
     }
 
-    guard_word : (size handler d : ℕ) (t u : State) → Ready size t → Guard handler t u → d % 8 ≡ 0 → d + 8 ≤ size → IsWord u (reg t 2 + d)
-    guard_word size handler d t u r g whole le = is_word_sized t u (reg t 2 + d) g.sizes (frame_word size d t r whole le)
+    guard_word : (front size handler d : ℕ) (t u : State) → Ready front size t → Guard handler t u → d % 8 ≡ 0 → d + 8 ≤ size → IsWord u (reg t 2 + d)
+    guard_word front size handler d t u r g whole le = is_word_sized t u (reg t 2 + d) g.sizes (frame_word front size d t r whole le)
 
     -- the code of a handler, and what stands for it
     module _ (unwind uncaught unwind_end : ℕ) (unwind_stands : Stands lines layout unwind_at (unwind_lines unwind uncaught) unwind_end)
-        (front size : ℕ) (frame : IsFrame front size) (three : front ≡ 3) (v : Frame) (t : State) (r : Ready size t) (s : Sees front size v t) (w w3 : World) (handler back to : ℕ) (p : Pushed handler t) (c : Called lines layout p.state back to) (a : Steps lines layout t w c.state w3)
+        (front size : ℕ) (frame : IsFrame front size) (three : 3 ≤ front) (v : Frame) (t : State) (r : Ready front size t) (s : Sees front size v t) (w w3 : World) (handler back to : ℕ) (p : Pushed handler t) (c : Called lines layout p.state back to) (a : Steps lines layout t w c.state w3)
         (aligned : handler % 4 ≡ 0) (small : handler < 2 ^ 64) (on out again : ℕ) (ms : Does) (h : Catch Does) (few_exceptions : h.exception < 2 ^ 11)
         (xs : List Line) (xs_to : ℕ) (restores : Stands lines layout back (line.Plain (instr.L Ld 8 2 (pos 8)) ∷ xs) xs_to)
         (land_s : LandsFrom lines layout unwind_at front size (λ v w. and_then (ms v w) (more 2)) (back + 4) on out again)
@@ -355,7 +355,7 @@ module _ (lines : List Line) (layout : List (ℕ × ℕ)) where
       returned_left x w' b =
           let u = b.state in
           let wide = frame.wide in
-          let g = guard_of size handler back to t p c u r b.outer in
+          let g = guard_of front size handler back to t p c u r b.outer in
           let two : reg u 2 ≡ sp = b.sp ∙ (c.sets).other 2 (apart 2 1 refl) ∙ p.sp in
           let low : reg t 2 ≤ 0x40000000 = (let x = r.frame in let y = (r.map).stack in omega arith) in
           let n = word u (sp + 8) in
@@ -364,7 +364,7 @@ module _ (lines : List Line) (layout : List (ℕ × ℕ)) where
           let s2 = sets_reg 8 hidden_8 u n (next (with_reg u 8 n)).pc count in
           let pc : u.pc ≡ back = b.pc ∙ (c.sets).value in
           let st = step_reg lines layout (instr.L Ld 8 2 (pos 8)) xs xs_to u 8 n (stands_at lines layout back u.pc (line.Plain (instr.L Ld 8 2 (pos 8)) ∷ xs) xs_to (sym pc) restores)
-          (loads_word u 8 2 (pos 8) (sp + 8) (guard_word size handler 8 t u r g refl (omega arith)) (ap (λ n. plus n (pos 8)) two ∙ plus_small sp 8 (omega arith))) in
+          (loads_word u 8 2 (pos 8) (sp + 8) (guard_word front size handler 8 t u r g refl (omega arith)) (ap (λ n. plus n (pos 8)) two ∙ plus_small sp 8 (omega arith))) in
           let h2 = guard_home front size handler t u x u2 three wide r.low g (s2.seen ∙ b.seen) (s2.other 2 (apart 2 8 refl) ∙ two) s2.memory s2.count (s2.other 4 (apart 4 8 refl)) (s2.value ∙ g.former) in
           let pc2 : u2.pc ≡ back + 4 = pc_of u n pc in
           after_comes lines layout unwind_at front size (λ v w. and_then (ms v w) (more 2)) t w (back_with v x) (tolled 1 (back_in w w')) (back + 4) on out again r
@@ -372,7 +372,7 @@ module _ (lines : List Line) (layout : List (ℕ × ℕ)) where
             state = u2;
             sees = home_sees front size t v x u2 s h2;
             pc = pc2;
-            kept = home_kept front size t x u2 h2;
+            kept = home_kept front size t x u2 (omega (arith, three)) h2;
             by = steps_on lines layout t w u (back_in w w') u2 (tolled 1 (back_in w w')) (steps_on lines layout t w c.state w3 u (back_in w w') a b.by)
                 (steps_goes lines layout u (back_in w w') u2 (tolled 1 (back_in w w')) 1 st.0 refl refl (omega arith) (omega arith));
           }) land_s
@@ -385,14 +385,14 @@ module _ (lines : List Line) (layout : List (ℕ × ℕ)) where
       raised_left i x w' b =
           let u = b.state in
           let wide = frame.wide in
-          let g = guard_of size handler back to t p c u r b.outer in
+          let g = guard_of front size handler back to t p c u r b.outer in
           let at_low = r.low in
           let low : reg t 2 ≤ 0x40000000 = (let x = r.frame in let y = (r.map).stack in omega arith) in
           let count : length u.registers ≡ 32 = g.count ∙ r.count in
           let sum : sp + 8 + 8 ≡ sp + 16 = omega arith in
           let code : word u (sp + 8 + 8) ≡ handler = ap (word u) sum ∙ g.code in
           let z = unwound unwind uncaught unwind_end (sp + 8) u count (stands_at lines layout unwind_at u.pc (unwind_lines unwind uncaught) unwind_end (sym b.pc) unwind_stands) g.newest (omega arith) (omega arith)
-          (guard_word size handler 8 t u r g refl (omega arith)) (subst (λ a. IsWord u a) (sym sum) (guard_word size handler 16 t u r g refl (omega arith))) (ap (λ n. n % 4) code ∙ aligned) (omega (arith, code, small)) in
+          (guard_word front size handler 8 t u r g refl (omega arith)) (subst (λ a. IsWord u a) (sym sum) (guard_word front size handler 16 t u r g refl (omega arith))) (ap (λ n. n % 4) code ∙ aligned) (omega (arith, code, small)) in
           let y = z.state in
           let ycount : length y.registers ≡ 32 = z.count ∙ count in
           let ypc : y.pc ≡ handler = z.pc ∙ code in
@@ -432,7 +432,7 @@ module _ (lines : List Line) (layout : List (ℕ × ℕ)) where
                 state = m.state;
                 sees = home_sees front size t v x m.state s home2;
                 pc = m.pc ∙ ap (λ a. a + 4 * hb.0) pc;
-                kept = home_kept front size t x m.state home2;
+                kept = home_kept front size t x m.state (omega (arith, three)) home2;
                 by = steps_on lines layout t w y2 (tolled 6 (back_in w w')) m.state (tolled 7 (back_in w w')) before
                     (steps_goes lines layout y2 (tolled 6 (back_in w w')) m.state (tolled 7 (back_in w w')) m.steps m.goes refl refl (omega arith) (omega arith));
               }) land_h

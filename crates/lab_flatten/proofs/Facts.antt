@@ -1,12 +1,12 @@
 -- What is known of the functions of a well-formed program.
-use Rattle.std.proofs.Common.{Bool, true, false, cond, ◌≡◌, ℕ, zero, suc, ◌≤◌, subst, List, [], ◌∷◌, map, Some, arith}
+use Rattle.std.proofs.Common.{◌≡◌, ℕ, zero, suc, ◌≤◌, subst, List, [], ◌∷◌, map, Some, arith}
 use Rattle.std.specs.Prelude.{slice_get}
 use Rattle.std.specs.List.{All, AllByRecursion}
 use Rattle.std.proofs.lemmas.List.Elements.{recursion_from_All}
 use Rattle.pan_stage.specs.Room.{IsCost}
 use Rattle.pan_stage.specs.Stage.{AtMost}
 use Rattle.pan_stage.specs.declared.program.Program.{Program}
-use Rattle.stack_lang.specs.Frames.{has_handlers, front_words}
+use Rattle.stack_lang.specs.Frames.{front_words}
 use Rattle.stack_lang.specs.Text.{mentions}
 use Rattle.stack_lang.specs.WellFormed.{IsRight, scope_of, IsFrame as IsAligned, IsWellFormed}
 use Rattle.stack_lang.specs.declared.syntax.StackFun.{StackFun}
@@ -20,10 +20,6 @@ pub of_one : {A : Type 0} (P : A → Type 0) (xs : List A) (k : ℕ) (x : A) →
 of_one P [] k x h is = absurd (cc)
 of_one P (y ∷ ys) zero x h is = subst P (some_same y x is) h.0
 of_one P (y ∷ ys) (suc k) x h is = of_one P ys k x h.1 is
-
-one_or_three : (b : Bool) → 1 ≤ cond b 3 1
-one_or_three true = omega arith
-one_or_three false = omega arith
 
 frame_small : (fs : List StackFun) (k : ℕ) (f : StackFun) → AtMost (map (λ (f : StackFun). f.frame) fs) (map (λ (f : StackFun). f.cost) fs) → AllByRecursion IsCost (map (λ (f : StackFun). f.cost) fs) → slice_get fs k ≡ Some f → f.frame ≤ 0x7F000
 frame_small [] k f le h is = absurd (cc)
@@ -40,7 +36,6 @@ module _ (p : Program StackFun) (fine : IsWellFormed p) (k : ℕ) (f : StackFun)
       let a = of_one (λ (f : StackFun). IsAligned (front_words f) f.frame) p.functions k f (recursion_from_All (λ (f : StackFun). IsAligned (front_words f) f.frame) p.functions fine.frames) is in
       let whole = a.whole in
       record {
-        some = one_or_three (has_handlers f.body);
         wide = a.wide;
         whole = omega arith;
         most = frame_small p.functions k f (((fine.room).within).frames) (recursion_from_All IsCost (map (λ (f : StackFun). f.cost) p.functions) (((fine.room).priced).each)) is;

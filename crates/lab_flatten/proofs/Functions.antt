@@ -1,6 +1,6 @@
 -- The lines of functions do what the functions do, at every layout.
-use Rattle.std.proofs.Common.{◌≡◌, ℕ, pos, zero, suc, ◌+◌, ◌-◌, ◌*◌, ◌%◌, ◌^◌, ◌<◌, ◌≤◌, refl, sym, ap, ◌∙◌, Bool, true, false, cond, List, [], ◌∷◌, ◌++◌, length, drop, Option, Some, None, arith}
-use Rattle.std.specs.Prelude.{slice_get, nat_le}
+use Rattle.std.proofs.Common.{◌≡◌, ℕ, pos, zero, suc, ◌+◌, ◌-◌, ◌*◌, ◌%◌, ◌^◌, ◌<◌, ◌≤◌, refl, sym, ap, ◌∙◌, subst, Bool, true, false, cond, List, [], ◌∷◌, ◌++◌, append_assoc, length, drop, Option, Some, None, arith}
+use Rattle.std.specs.Prelude.{slice_get, nat_eq, nat_le}
 use Rattle.std.specs.List.{All}
 use Rattle.std.proofs.lemmas.List.Elements.{recursion_from_All}
 use Rattle.std.proofs.lemmas.Bool.Decides.{nat_tests}
@@ -29,12 +29,11 @@ use Rattle.stack_lang.specs.Frame.{Frame}
 use Rattle.stack_lang.specs.Meaning.{World, Outcome, Callee, run, enter, body_of, leaves}
 use Rattle.stack_lang.specs.Text.{mentions}
 use Rattle.stack_lang.specs.WellFormed.{IsRight, scope_of}
-use Rattle.lab_flatten.specs.Flatten.{below, flat, function_lines, stub_lines, unwind_lines}
-use Rattle.lab_flatten.proofs.Hiding.{apart, hidden_2}
-use Rattle.lab_flatten.proofs.Machine.{reg_same, reg_other, sets_reg, sets_pc, word, map_kept, stored, stores_word, stored_is, plus_zero, reg_pc, sizes_on, sizes_is, Outer, outer_on, saved, IsFrame, Ready, Begins}
-use Rattle.lab_flatten.proofs.Lines.{At, settled, Stands, stands_at, past_label, Goes, goes_on, constant, step_plain, step_reg, branch_moved, branch_passed, lowered}
+use Rattle.lab_flatten.specs.Flatten.{where_some, below, front_lines, flat, function_lines, stub_lines, unwind_lines}
+use Rattle.lab_flatten.proofs.Hiding.{apart, SameSizes, same_sizes, hidden_2}
+use Rattle.lab_flatten.proofs.Machine.{reg_same, reg_other, sets_reg, sets_pc, word, SameFrom, IsMap, map_kept, IsWord, stored, stores_word, stored_is, plus_zero, reg_pc, sizes_on, sizes_is, Outer, outer_on, saved, IsFrame, Ready, Begins}
+use Rattle.lab_flatten.proofs.Lines.{At, settled, Stands, stands_at, past_label, Goes, goes_none, goes_on, constant, step_plain, step_reg, branch_moved, branch_passed, lowered}
 use Rattle.lab_flatten.proofs.Lands.{shown, Sees, Steps, steps_on, steps_goes, Stops, stops_by, stops_spent, Lands, Leaves, Enters, threw_on}
-use Rattle.lab_flatten.proofs.Calls.{is_word_same}
 use Rattle.lab_flatten.proofs.Simulation.{flattened}
 
 module _ (lines : List Line) (layout : List (ℕ × ℕ)) where
@@ -74,58 +73,173 @@ module _ (lines : List Line) (layout : List (ℕ × ℕ)) where
   module _ (unwind_at : ℕ) where
     -- ---- a function's entry
 
+    -- x2 is below the frame
+    record Lowered (n : ℕ) (t : State) (xs : List Line) (to : ℕ) : Type 0 where
+      state : State
+      seen : hide state ≡ hide t
+      memory : state.memory ≡ t.memory
+      count : length state.registers ≡ length t.registers
+      sp : reg state 2 ≡ reg t 2 - n
+      one : reg state 1 ≡ reg t 1
+      limit : reg state 4 ≡ reg t 4
+      newest : reg state 8 ≡ reg t 8
+      steps : ℕ
+      few : steps ≤ 5
+      goes : Goes lines layout t state steps
+      stands : Stands lines layout state.pc xs to
+
+    abbrev lines_below : ℕ → ℕ → List Line
+    lines_below n stub = below n ++ line.Branch Ltu 9 4 stub ∷ line.Plain (instr.I Addi 2 9 (pos 0)) ∷ []
+
+    made_below : (n : ℕ) → n ≤ 0x7F000 → (t : State) → Begins t → (room : ℕ) → reg t 2 ≡ 0x20000000 + room → n ≤ room → (stub stub_at : ℕ) → At lines layout stub stub_at → (xs : List Line) (to : ℕ)
+        → Stands lines layout t.pc (where_some n (lines_below n stub) ++ xs) to → Lowered n t xs to
+    made_below n most t h room high fits stub stub_at there xs to stands = by (nat_eq n 0) refl
+      where
+        fine : (a b : ℕ) → b ≤ a → compare Ltu a b ≡ false
+        fine a b le = grind (arith, nat_tests)
+
+        by : (b : Bool) → nat_eq n 0 ≡ b → Lowered n t xs to
+        by true is =
+            let none : n ≡ 0 = grind (arith, nat_tests) in
+            record { state = t; seen = refl; memory = refl; count = refl; sp = omega (arith, none); one = refl; limit = refl; newest = refl; steps = 0; few = omega arith; goes = goes_none lines layout t; stands = subst (λ b. Stands lines layout t.pc (cond b [] (lines_below n stub) ++ xs) to) is stands }
+        by false is =
+            let some : 0 < n = grind (arith, nat_tests) in
+            let rest = line.Branch Ltu 9 4 stub ∷ line.Plain (instr.I Addi 2 9 (pos 0)) ∷ [] in
+            let begin : Stands lines layout t.pc (below n ++ (rest ++ xs)) to = subst (λ ys. Stands lines layout t.pc ys to) (append_assoc (below n) rest xs) (subst (λ b. Stands lines layout t.pc (cond b [] (lines_below n stub) ++ xs) to) is stands) in
+            let l = lowered lines layout n t (rest ++ xs) to h.count h.low (let a = h.top in let b = (h.map).stack in omega arith) some most begin in
+            let u1 = l.state in
+            let c1 : length u1.registers ≡ 32 = (l.sets).count ∙ h.count in
+            let four : reg u1 4 ≡ 0x20000000 = (l.sets).other 4 (apart 4 9 refl) ∙ h.limit in
+            let nine = (l.sets).value in
+            let nb = (l.stands).0 in
+            let test : compare Ltu (reg u1 9) (reg u1 4) ≡ false = fine (reg u1 9) (reg u1 4) (omega arith) in
+            let u2 = record u1 { pc = u1.pc + 4 * nb } in
+            let g2 = branch_passed lines layout u1 Ltu 9 4 stub nb stub_at (l.stands).1 there test in
+            let s2 = sets_pc 9 u1 (u1.pc + 4 * nb) in
+            let m = plus (reg u2 9) (pos 0) in
+            let u3 = next (with_reg u2 2 m) in
+            let s3 = sets_reg 2 hidden_2 u2 m (next (with_reg u2 2 m)).pc c1 in
+            let g3 = step_reg lines layout (instr.I Addi 2 9 (pos 0)) xs to u2 2 m (l.stands).2 refl in
+            let top = h.top in let wide = (h.map).stack in
+            record {
+              state = u3;
+              seen = s3.seen ∙ s2.seen ∙ (l.sets).seen;
+              memory = s3.memory ∙ (l.sets).memory;
+              count = s3.count ∙ (l.sets).count;
+              sp = s3.value ∙ ap (λ n. plus n (pos 0)) (s2.value ∙ nine) ∙ plus_zero (reg t 2 - n) (omega arith);
+              one = s3.other 1 (apart 1 2 refl) ∙ s2.other 1 (apart 1 9 refl) ∙ (l.sets).other 1 (apart 1 9 refl);
+              limit = s3.other 4 (apart 4 2 refl) ∙ s2.other 4 (apart 4 9 refl) ∙ (l.sets).other 4 (apart 4 9 refl);
+              newest = s3.other 8 (apart 8 2 refl) ∙ s2.other 8 (apart 8 9 refl) ∙ (l.sets).other 8 (apart 8 9 refl);
+              steps = l.steps + (1 + 1);
+              few = (let x = l.few in omega arith);
+              goes = goes_on lines layout t u1 u3 l.steps (1 + 1) l.goes (goes_on lines layout u1 u2 u3 1 1 g2 g3.0);
+              stands = g3.1;
+            }
+
+    -- the return address is where the running function has it
+    record Put (front : ℕ) (t : State) (xs : List Line) (to : ℕ) : Type 0 where
+      state : State
+      seen : hide state ≡ hide t
+      sizes : SameSizes t.memory state.memory
+      count : length state.registers ≡ length t.registers
+      sp : reg state 2 ≡ reg t 2
+      limit : reg state 4 ≡ reg t 4
+      newest : reg state 8 ≡ reg t 8
+      above : SameFrom (reg t 2 + 8 * front) t state
+      back : saved front state ≡ reg t 1
+      steps : ℕ
+      few : steps ≤ 1
+      goes : Goes lines layout t state steps
+      stands : Stands lines layout state.pc xs to
+
+    made_link : (front : ℕ) (t : State) → (0 < front → IsWord t (reg t 2)) → reg t 1 < 2 ^ 64 → (xs : List Line) (to : ℕ) → Stands lines layout t.pc (where_some front (line.Plain (instr.S Sd 2 1 (pos 0)) ∷ []) ++ xs) to → Put front t xs to
+    made_link front t word_at little xs to stands = by (nat_eq front 0) refl
+      where
+        small : (n : ℕ) → n < 2 ^ 64 → n % 2 ^ 64 ≡ n
+        small n s = omega arith
+
+        by : (b : Bool) → nat_eq front 0 ≡ b → Put front t xs to
+        by true is =
+            record {
+              state = t;
+              seen = refl;
+              sizes = same_sizes t.memory;
+              count = refl;
+              sp = refl;
+              limit = refl;
+              newest = refl;
+              above = λ m le. refl;
+              back = ap (λ b. cond b (reg t 1) (word t (reg t 2))) is;
+              steps = 0;
+              few = omega arith;
+              goes = goes_none lines layout t;
+              stands = subst (λ b. Stands lines layout t.pc (cond b [] (line.Plain (instr.S Sd 2 1 (pos 0)) ∷ []) ++ xs) to) is stands;
+            }
+        by false is =
+            let some : 0 < front = grind (arith, nat_tests) in
+            let w = word_at some in
+            let low = w.low in let high = w.high in let wide = (w.map).stack in
+            let u = stored t (reg t 2) (reg t 1) in
+            let d = stored_is t (reg t 2) (reg t 1) w in
+            let g = step_plain lines layout (instr.S Sd 2 1 (pos 0)) xs to t u (subst (λ b. Stands lines layout t.pc (cond b [] (line.Plain (instr.S Sd 2 1 (pos 0)) ∷ []) ++ xs) to) is stands) (stores_word t 2 1 (pos 0) (reg t 2) w (plus_zero (reg t 2) (omega arith))) refl in
+            record {
+              state = u;
+              seen = d.seen;
+              sizes = d.sizes;
+              count = d.count;
+              sp = d.regs 2;
+              limit = d.regs 4;
+              newest = d.regs 8;
+              above = λ m le. d.above m (omega arith);
+              back = ap (λ b. cond b (reg u 1) (word u (reg u 2))) is ∙ ap (word u) (d.regs 2) ∙ d.here ∙ small (reg t 1) little;
+              steps = 1;
+              few = omega arith;
+              goes = g.0;
+              stands = g.1;
+            }
+
     -- the frame stands
     record Framed (front n : ℕ) (v : Frame) (t : State) (xs : List Line) (to : ℕ) : Type 0 where
       state : State
-      ready : Ready n state
+      ready : Ready front n state
       sees : Sees front n (record v { slots = λ k. None; room = v.room - n }) state
       outer : Outer (reg t 2) t state
       top : reg state 2 + n ≡ reg t 2
-      back : saved state ≡ reg t 1
+      back : saved front state ≡ reg t 1
       steps : ℕ
       few : steps ≤ 6
       goes : Goes lines layout t state steps
       stands : Stands lines layout state.pc xs to
 
     framed : (front n : ℕ) → IsFrame front n → (t : State) → Begins t → (v : Frame) → hide t ≡ v.seen → reg t 2 ≡ 0x20000000 + v.room → n ≤ v.room → (stub stub_at : ℕ) → At lines layout stub stub_at → (xs : List Line) (to : ℕ)
-        → Stands lines layout t.pc (below n ++ line.Branch Ltu 9 4 stub ∷ line.Plain (instr.I Addi 2 9 (pos 0)) ∷ line.Plain (instr.S Sd 2 1 (pos 0)) ∷ xs) to → Framed front n v t xs to
+        → Stands lines layout t.pc (front_lines front n stub ++ xs) to → Framed front n v t xs to
     framed front n frame t h v seen room fits stub stub_at there xs to stands =
-        let wide = frame.wide in let least = frame.some in let most = frame.most in let even = frame.whole in
-        let low : 0x20000000 ≤ reg t 2 = h.low in
-        let high : reg t 2 ≤ 0x40000000 = (let a = h.top in let b = (h.map).stack in omega arith) in
-        let l = lowered lines layout n t (line.Branch Ltu 9 4 stub ∷ line.Plain (instr.I Addi 2 9 (pos 0)) ∷ line.Plain (instr.S Sd 2 1 (pos 0)) ∷ xs) to h.count low high (omega arith) most stands in
-        let u1 = l.state in
-        let c1 : length u1.registers ≡ 32 = (l.sets).count ∙ h.count in
-        let four : reg u1 4 ≡ 0x20000000 = (l.sets).other 4 (apart 4 9 refl) ∙ h.limit in
-        let nine = (l.sets).value in
-        let nb = (l.stands).0 in
-        let test : compare Ltu (reg u1 9) (reg u1 4) ≡ false = fine (reg u1 9) (reg u1 4) (omega arith) in
-        let u2 = record u1 { pc = u1.pc + 4 * nb } in
-        let g2 = branch_passed lines layout u1 Ltu 9 4 stub nb stub_at (l.stands).1 there test in
-        let s2 = sets_pc 9 u1 (u1.pc + 4 * nb) in
-        let m = plus (reg u2 9) (pos 0) in
-        let u3 = next (with_reg u2 2 m) in
-        let s3 = sets_reg 2 hidden_2 u2 m (next (with_reg u2 2 m)).pc c1 in
-        let g3 = step_reg lines layout (instr.I Addi 2 9 (pos 0)) (line.Plain (instr.S Sd 2 1 (pos 0)) ∷ xs) to u2 2 m (l.stands).2 refl in
-        let sp3 : reg u3 2 ≡ reg t 2 - n = s3.value ∙ ap (λ n. plus n (pos 0)) (s2.value ∙ nine) ∙ plus_zero (reg t 2 - n) (omega arith) in
-        let sp = reg t 2 - n in
-        let mem3 : u3.memory ≡ t.memory = s3.memory ∙ (l.sets).memory in
-        let w = is_word_same t u3 sp mem3 (record { map = h.map; whole = (let x = h.whole in omega arith); low = omega arith; high = (let x = h.top in omega arith) }) in
-        let one : reg u3 1 ≡ reg t 1 = s3.other 1 (apart 1 2 refl) ∙ s2.other 1 (apart 1 9 refl) ∙ (l.sets).other 1 (apart 1 9 refl) in
-        let u4 = stored u3 sp (reg u3 1) in
-        let d4 = stored_is u3 sp (reg u3 1) w in
-        let g4 = step_plain lines layout (instr.S Sd 2 1 (pos 0)) xs to u3 u4 g3.1 (stores_word u3 2 1 (pos 0) sp w (ap (λ n. plus n (pos 0)) sp3 ∙ plus_zero sp (omega arith))) refl in
-        let sp4 : reg u4 2 ≡ sp = d4.regs 2 ∙ sp3 in
-        let sizes = sizes_on t.memory u3.memory u4.memory (sizes_is t.memory u3.memory mem3) d4.sizes in
-        let count : length u4.registers ≡ length t.registers = d4.count ∙ s3.count ∙ (l.sets).count in
-        let limit : reg u4 4 ≡ reg t 4 = d4.regs 4 ∙ s3.other 4 (apart 4 2 refl) ∙ s2.other 4 (apart 4 9 refl) ∙ (l.sets).other 4 (apart 4 9 refl) in
-        let newest : reg u4 8 ≡ reg t 8 = d4.regs 8 ∙ s3.other 8 (apart 8 2 refl) ∙ s2.other 8 (apart 8 9 refl) ∙ (l.sets).other 8 (apart 8 9 refl) in
+        let wide = frame.wide in let most = frame.most in let even = frame.whole in
+        let link = where_some front (line.Plain (instr.S Sd 2 1 (pos 0)) ∷ []) in
+        let begin : Stands lines layout t.pc (where_some n (lines_below n stub) ++ (link ++ xs)) to = subst (λ ys. Stands lines layout t.pc ys to) (append_assoc (where_some n (lines_below n stub)) link xs) stands in
+        let l = made_below n most t h v.room room fits stub stub_at there (link ++ xs) to begin in
+        let u = l.state in
+        let sp : reg u 2 ≡ reg t 2 - n = l.sp in
+        let one = l.one in
+        let word_at : 0 < front → IsWord u (reg u 2) = λ some. record {
+          map = subst IsMap (sym l.memory) h.map;
+          whole = let x = h.whole in omega arith;
+          low = omega arith;
+          high = let x = h.top in let e : length (u.memory).stack ≡ length (t.memory).stack = ap (λ (m : Memory). length m.stack) l.memory in omega arith;
+        } in
         let link_word = h.link_word in
-        let back : saved u4 ≡ reg t 1 = ap (word u4) sp4 ∙ d4.here ∙ ap (λ n. n % 2 ^ 64) one ∙ small (reg t 1) link_word in
+        let p = made_link front u word_at (omega arith) xs to l.stands in
+        let z = p.state in
+        let sp2 = p.sp in
+        let sizes = sizes_on t.memory u.memory z.memory (sizes_is t.memory u.memory l.memory) p.sizes in
+        let count : length z.registers ≡ length t.registers = p.count ∙ l.count in
+        let limit : reg z 4 ≡ reg t 4 = p.limit ∙ l.limit in
+        let newest : reg z 8 ≡ reg t 8 = p.newest ∙ l.newest in
+        let back : saved front z ≡ reg t 1 = p.back ∙ one in
         record {
-          state = u4;
+          state = z;
           ready = record {
-            map = map_kept t.memory u4.memory h.map sizes;
+            map = map_kept t.memory z.memory h.map sizes;
             count = count ∙ h.count;
             whole = let x = h.whole in omega arith;
             low = omega arith;
@@ -135,33 +249,27 @@ module _ (lines : List Line) (layout : List (ℕ × ℕ)) where
             back_word = omega arith;
             newest = let x = h.newest in omega arith;
           };
-          sees = record { seen = d4.seen ∙ s3.seen ∙ s2.seen ∙ (l.sets).seen ∙ seen; room = omega arith; slots = λ j i le is. absurd (none_some i is) };
+          sees = record { seen = p.seen ∙ l.seen ∙ seen; room = omega arith; slots = λ j i le is. absurd (none_some i is) };
           outer = record {
             sizes = sizes;
             count = count;
             limit = limit;
             newest = newest;
-            above = λ k le. d4.above k (omega arith) ∙ ap (λ (y : Memory). drop k y.stack) mem3;
+            above = λ k le. p.above k (omega arith) ∙ ap (λ (y : Memory). drop k y.stack) l.memory;
           };
           top = omega arith;
           back = back;
-          steps = l.steps + (1 + (1 + 1));
-          few = (let x = l.few in omega arith);
-          goes = goes_on lines layout t u1 u4 l.steps (1 + (1 + 1)) l.goes (goes_on lines layout u1 u2 u4 1 (1 + 1) g2 (goes_on lines layout u2 u3 u4 1 1 g3.0 g4.0));
-          stands = g4.1;
+          steps = l.steps + p.steps;
+          few = (let x = l.few in let y = p.few in omega arith);
+          goes = goes_on lines layout t u z l.steps p.steps l.goes p.goes;
+          stands = p.stands;
         }
       where
-        fine : (a b : ℕ) → b ≤ a → compare Ltu a b ≡ false
-        fine a b le = grind (arith, nat_tests)
-
-        small : (n : ℕ) → n < 2 ^ 64 → n % 2 ^ 64 ≡ n
-        small n s = omega arith
-
         none_some : (i : ℕ) → None ≡ Some i → ⊥
         none_some i e = cc
 
     -- a function's body, in its frame
-    left_leaves : (front n : ℕ) (t : State) (w w3 : World) (u : State) → Steps lines layout t w u w3 → Outer (reg t 2) t u → reg u 2 + n ≡ reg t 2 → saved u ≡ reg t 1 → (o : Outcome Frame Frame) (to out again : ℕ)
+    left_leaves : (front n : ℕ) (t : State) (w w3 : World) (u : State) → Steps lines layout t w u w3 → Outer (reg t 2) t u → reg u 2 + n ≡ reg t 2 → saved front u ≡ reg t 1 → (o : Outcome Frame Frame) (to out again : ℕ)
         → Lands lines layout unwind_at front n o u w3 to out again → Leaves lines layout unwind_at (left o) t w
     left_leaves front n t w w3 u a outer top back (Normal x w') to out again b = λ ok. absurd (ok refl)
     left_leaves front n t w w3 u a outer top back (Broken x w') to out again b = λ ok. absurd (ok refl)
@@ -188,12 +296,18 @@ module _ (lines : List Line) (layout : List (ℕ × ℕ)) where
           at_stub : At lines layout stub stub_at
           at_stub = (stub_stands.1).1
 
-          code : List Line
-          code = (flat (front_words fn) fn.frame unwind fn.body).lines n stub stub false
+          begin : Stands lines layout t.pc (front_lines (front_words fn) fn.frame stub ++ (flat (front_words fn) fn.frame unwind fn.body).lines n stub stub false) to
+          begin = stands_at lines layout entry t.pc (front_lines (front_words fn) fn.frame stub ++ (flat (front_words fn) fn.frame unwind fn.body).lines n stub stub false) to (sym e) (past_label lines layout f entry (front_lines (front_words fn) fn.frame stub ++ (flat (front_words fn) fn.frame unwind fn.body).lines n stub stub false) to stands)
 
-          begin : Stands lines layout t.pc (below fn.frame ++ line.Branch Ltu 9 4 stub ∷ line.Plain (instr.I Addi 2 9 (pos 0)) ∷ line.Plain (instr.S Sd 2 1 (pos 0)) ∷ (flat (front_words fn) fn.frame unwind fn.body).lines n stub stub false) to
-          begin = stands_at lines layout entry t.pc (below fn.frame ++ line.Branch Ltu 9 4 stub ∷ line.Plain (instr.I Addi 2 9 (pos 0)) ∷ line.Plain (instr.S Sd 2 1 (pos 0)) ∷ (flat (front_words fn) fn.frame unwind fn.body).lines n stub stub false) to (sym e)
-              (past_label lines layout f entry (below fn.frame ++ line.Branch Ltu 9 4 stub ∷ line.Plain (instr.I Addi 2 9 (pos 0)) ∷ line.Plain (instr.S Sd 2 1 (pos 0)) ∷ (flat (front_words fn) fn.frame unwind fn.body).lines n stub stub false) to stands)
+          -- where there is no room there is a frame
+          lowering : nat_eq fn.frame 0 ≡ false → Stands lines layout t.pc (below fn.frame ++ line.Branch Ltu 9 4 stub ∷ line.Plain (instr.I Addi 2 9 (pos 0)) ∷ (where_some (front_words fn) (line.Plain (instr.S Sd 2 1 (pos 0)) ∷ []) ++ (flat (front_words fn) fn.frame unwind fn.body).lines n stub stub false)) to
+          lowering is =
+              let link = where_some (front_words fn) (line.Plain (instr.S Sd 2 1 (pos 0)) ∷ []) in
+              let rest = line.Branch Ltu 9 4 stub ∷ line.Plain (instr.I Addi 2 9 (pos 0)) ∷ [] in
+              subst (λ ys. Stands lines layout t.pc ys to) (append_assoc (below fn.frame ++ rest) link ((flat (front_words fn) fn.frame unwind fn.body).lines n stub stub false) ∙ append_assoc (below fn.frame) rest (link ++ (flat (front_words fn) fn.frame unwind fn.body).lines n stub stub false)) (subst (λ b. Stands lines layout t.pc ((cond b [] (below fn.frame ++ rest) ++ link) ++ (flat (front_words fn) fn.frame unwind fn.body).lines n stub stub false) to) is begin)
+
+          same_most : (n : ℕ) → n ≤ n
+          same_most n = omega arith
 
           taken : (a b : ℕ) → a < b → compare Ltu a b ≡ true
           taken a b le = grind (arith, nat_tests)
@@ -206,15 +320,15 @@ module _ (lines : List Line) (layout : List (ℕ × ℕ)) where
               let few = u.few in
               left_leaves (front_words fn) fn.frame t w w3 u.state (steps_goes lines layout t w u.state w3 u.steps u.goes refl refl (omega arith) (omega arith)) u.outer u.top u.back
               (run fn.frame d g fn.body (record v { slots = λ k. None; room = v.room - fn.frame }) w3) to stub_at stub_at
-              (flattened lines layout unwind_at (front_words fn) fn.frame unwind uncaught unwind_end unwind_stands frame d functions exceptions names few_exceptions few_names g enters places fn.body (recursion_from_All (IsRight (record { frame = fn.frame; front = front_words fn; functions = functions; exceptions = exceptions; names = names })) (mentions fn.body) right) (λ h. ap (λ b. cond b 3 1) h) n stub stub (u.state).pc to stub_at stub_at false u.stands at_stub at_stub (λ is. absurd (cc is))
+              (flattened lines layout unwind_at (front_words fn) fn.frame unwind uncaught unwind_end unwind_stands frame d functions exceptions names few_exceptions few_names g enters places fn.body (recursion_from_All (IsRight (record { frame = fn.frame; front = front_words fn; functions = functions; exceptions = exceptions; names = names })) (mentions fn.body) right) (same_most (front_words fn)) n stub stub (u.state).pc to stub_at stub_at false u.stands at_stub at_stub (λ is. absurd (cc is))
               u.state (record v { slots = λ k. None; room = v.room - fn.frame }) refl u.ready u.sees w3)
           by false is = λ ok.
               let short : v.room < fn.frame = grind (arith, nat_tests) in
-              let wide = frame.wide in let least = frame.some in let most = frame.most in
+              let most = frame.most in
+              let some : nat_eq fn.frame 0 ≡ false = grind (arith, nat_tests) in
               let low : 0x20000000 ≤ reg t 2 = h.low in
               let high : reg t 2 ≤ 0x40000000 = (let a = h.top in let b = (h.map).stack in omega arith) in
-              let rest = line.Branch Ltu 9 4 stub ∷ line.Plain (instr.I Addi 2 9 (pos 0)) ∷ line.Plain (instr.S Sd 2 1 (pos 0)) ∷ (flat (front_words fn) fn.frame unwind fn.body).lines n stub stub false in
-              let l = lowered lines layout fn.frame t rest to h.count low high (omega arith) most begin in
+              let l = lowered lines layout fn.frame t (line.Branch Ltu 9 4 stub ∷ line.Plain (instr.I Addi 2 9 (pos 0)) ∷ (where_some (front_words fn) (line.Plain (instr.S Sd 2 1 (pos 0)) ∷ []) ++ (flat (front_words fn) fn.frame unwind fn.body).lines n stub stub false)) to h.count low high (omega arith) most (lowering some) in
               let u1 = l.state in
               let c1 : length u1.registers ≡ 32 = (l.sets).count ∙ h.count in
               let four : reg u1 4 ≡ 0x20000000 = (l.sets).other 4 (apart 4 9 refl) ∙ h.limit in

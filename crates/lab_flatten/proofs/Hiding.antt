@@ -126,6 +126,7 @@ pub record Follows (t u : State) : Type 0 where
   pub pc : u.pc ≡ t.pc + 4
   pub stack : (u.memory).stack ≡ t.memory.stack
   pub sp : get_or u.registers 2 0 ≡ get_or t.registers 2 0
+  pub link : get_or u.registers 1 0 ≡ get_or t.registers 1 0
   pub newest : get_or u.registers 8 0 ≡ get_or t.registers 8 0
   pub limit : get_or u.registers 4 0 ≡ get_or t.registers 4 0
   pub count : length u.registers ≡ length t.registers
@@ -136,22 +137,22 @@ shown_of r v = (v.0, v.1, v.2, v.3)
 
 module _ (t : State) (r n : ℕ) (v : IsWritable r) where
   follows_of : (b : Bool) → Follows t (next (record t { registers = cond b t.registers (set t.registers r n) }))
-  follows_of true = record { pc = refl; stack = refl; sp = refl; newest = refl; limit = refl; count = refl; sizes = same_sizes t.memory }
-  follows_of false = record { pc = refl; stack = refl; sp = (let a : 2 ≢ r = λ e. v.2 (sym e) in get_or-set_other t.registers r 2 n 0 a); newest = (let a : 8 ≢ r = λ e. v.3 (sym e) in get_or-set_other t.registers r 8 n 0 a); limit = (let a : 4 ≢ r = λ e. v.4 (sym e) in get_or-set_other t.registers r 4 n 0 a); count = length-set t.registers r n; sizes = same_sizes t.memory }
+  follows_of true = record { pc = refl; stack = refl; sp = refl; link = refl; newest = refl; limit = refl; count = refl; sizes = same_sizes t.memory }
+  follows_of false = record { pc = refl; stack = refl; sp = (let a : 2 ≢ r = λ e. v.2 (sym e) in get_or-set_other t.registers r 2 n 0 a); link = (let a : 1 ≢ r = λ e. v.0 (sym e) in get_or-set_other t.registers r 1 n 0 a); newest = (let a : 8 ≢ r = λ e. v.3 (sym e) in get_or-set_other t.registers r 8 n 0 a); limit = (let a : 4 ≢ r = λ e. v.4 (sym e) in get_or-set_other t.registers r 4 n 0 a); count = length-set t.registers r n; sizes = same_sizes t.memory }
 
   pub follows_reg : Follows t (next (with_reg t r n))
   follows_reg = follows_of (eqb r 0)
 
   -- the same where the state is at the next instruction before it is written
   follows_then : (b : Bool) → Follows t (record (next t) { registers = cond b t.registers (set t.registers r n) })
-  follows_then true = record { pc = refl; stack = refl; sp = refl; newest = refl; limit = refl; count = refl; sizes = same_sizes t.memory }
-  follows_then false = record { pc = refl; stack = refl; sp = (let a : 2 ≢ r = λ e. v.2 (sym e) in get_or-set_other t.registers r 2 n 0 a); newest = (let a : 8 ≢ r = λ e. v.3 (sym e) in get_or-set_other t.registers r 8 n 0 a); limit = (let a : 4 ≢ r = λ e. v.4 (sym e) in get_or-set_other t.registers r 4 n 0 a); count = length-set t.registers r n; sizes = same_sizes t.memory }
+  follows_then true = record { pc = refl; stack = refl; sp = refl; link = refl; newest = refl; limit = refl; count = refl; sizes = same_sizes t.memory }
+  follows_then false = record { pc = refl; stack = refl; sp = (let a : 2 ≢ r = λ e. v.2 (sym e) in get_or-set_other t.registers r 2 n 0 a); link = (let a : 1 ≢ r = λ e. v.0 (sym e) in get_or-set_other t.registers r 1 n 0 a); newest = (let a : 8 ≢ r = λ e. v.3 (sym e) in get_or-set_other t.registers r 8 n 0 a); limit = (let a : 4 ≢ r = λ e. v.4 (sym e) in get_or-set_other t.registers r 4 n 0 a); count = length-set t.registers r n; sizes = same_sizes t.memory }
 
   pub follows_next : Follows t (with_reg (next t) r n)
   follows_next = follows_then (eqb r 0)
 
 pub stays : (t : State) → Follows t (next t)
-stays t = record { pc = refl; stack = refl; sp = refl; newest = refl; limit = refl; count = refl; sizes = same_sizes t.memory }
+stays t = record { pc = refl; stack = refl; sp = refl; link = refl; newest = refl; limit = refl; count = refl; sizes = same_sizes t.memory }
 
 -- What an instruction does to what is seen of t, and to t itself. Where the first is a fault nothing is said.
 abbrev pub Agree : State → Config → Config → Type 0
@@ -242,15 +243,15 @@ module _ (t : State) (small : length t.memory.stack ≤ 0x20000000) where
       places (λ p q. Agree t (store p size addr value (hide t)) (store q size addr value t)) addr (byte_count size) (some_bytes size)
       (λ h. (
         seen_memory t (with_bytes region.Block (with_number size (bytes_of region.Block t.memory) (addr - begin region.Block) value) t.memory),
-        record { pc = refl; stack = refl; sp = refl; newest = refl; limit = refl; count = refl; sizes = record { block = number_long size _ _ value (within _ _ addr (byte_count size) h); globals = refl; local = refl; stack = refl } },
+        record { pc = refl; stack = refl; sp = refl; link = refl; newest = refl; limit = refl; count = refl; sizes = record { block = number_long size _ _ value (within _ _ addr (byte_count size) h); globals = refl; local = refl; stack = refl } },
       ))
       (λ h. (
         seen_memory t (with_bytes region.Globals (with_number size (bytes_of region.Globals t.memory) (addr - begin region.Globals) value) t.memory),
-        record { pc = refl; stack = refl; sp = refl; newest = refl; limit = refl; count = refl; sizes = record { block = refl; globals = number_long size _ _ value (within _ _ addr (byte_count size) h); local = refl; stack = refl } },
+        record { pc = refl; stack = refl; sp = refl; link = refl; newest = refl; limit = refl; count = refl; sizes = record { block = refl; globals = number_long size _ _ value (within _ _ addr (byte_count size) h); local = refl; stack = refl } },
       ))
       (λ h. (
         seen_memory t (with_bytes region.Local (with_number size (bytes_of region.Local t.memory) (addr - begin region.Local) value) t.memory),
-        record { pc = refl; stack = refl; sp = refl; newest = refl; limit = refl; count = refl; sizes = record { block = refl; globals = refl; local = number_long size _ _ value (within _ _ addr (byte_count size) h); stack = refl } },
+        record { pc = refl; stack = refl; sp = refl; link = refl; newest = refl; limit = refl; count = refl; sizes = record { block = refl; globals = refl; local = number_long size _ _ value (within _ _ addr (byte_count size) h); stack = refl } },
       ))
       (refl, λ r fit. (hide_hide t, stays t))
       (λ p. fault_agrees t (store p size addr value t))
@@ -277,6 +278,7 @@ module _ (t : State) (small : length t.memory.stack ≤ 0x20000000) where
           pc = refl;
           stack = refl;
           sp = refl;
+          link = refl;
           newest = refl;
           limit = refl;
           count = refl;

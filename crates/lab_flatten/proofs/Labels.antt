@@ -1,6 +1,6 @@
 -- The labels of a statement's lines are distinct, and are those that were free for it.
-use Rattle.std.proofs.Common.{◌≡◌, ℕ, suc, ◌+◌, ◌<◌, ◌≤◌, refl, sym, ap, ◌∙◌, subst, Bool, true, false, List, [], ◌∷◌, ◌++◌, map, inl, inr, arith, pos, negsuc, cond, ◌-◌, length, Some, None}
-use Rattle.std.specs.Prelude.{◌⊎◌, ◌||◌, ◌==◌}
+use Rattle.std.proofs.Common.{◌≡◌, ℕ, suc, ◌+◌, ◌<◌, ◌≤◌, refl, sym, ap, ◌∙◌, subst, Bool, true, false, List, [], ◌∷◌, ◌++◌, append_assoc, map, inl, inr, arith, pos, negsuc, cond, ◌-◌, length, Some, None}
+use Rattle.std.specs.Prelude.{◌⊎◌, ◌||◌, ◌==◌, nat_eq}
 use Rattle.std.proofs.lemmas.Bool.Decides.{nat_tests}
 use Rattle.pan_base.specs.declared.operators.LOp.TheVariants.{Ld}
 use Rattle.pan_base.specs.declared.operators.SOp.TheVariants.{Sd}
@@ -13,7 +13,7 @@ use Rattle.lab_lang.specs.declared.syntax.Line.{Line}
 use Rattle.lab_lang.specs.declared.syntax.Line.TheVariants as line
 use Rattle.lab_lang.specs.Layout.{is_label}
 use Rattle.pan_base.specs.declared.operators.Cmp.{Cmp}
-use Rattle.lab_flatten.specs.Flatten.{Flat, row, labels_of, ends, inverse, choice_head, choice_middle, choice_end, choice_last, loop_head, loop_turn, flat_layer, flat, reach, below, high, low, is_near, slot_at, function_lines, functions_lines, start_lines, stub_lines, unwind_lines, program_lines, labels_in}
+use Rattle.lab_flatten.specs.Flatten.{Flat, row, labels_of, ends, inverse, choice_head, choice_middle, choice_end, choice_last, loop_head, loop_turn, flat_layer, flat, reach, base, rest, where_some, below, front_lines, off, high, low, is_near, slot_at, function_lines, functions_lines, start_lines, stub_lines, unwind_lines, program_lines, labels_in}
 use Rattle.stack_lang.specs.Frames.{front_words}
 use Rattle.stack_lang.specs.declared.syntax.StackFun.{StackFun}
 use Rattle.stack_lang.specs.declared.syntax.Stmt.{Stmt, Stmt-F, map-Stmt}
@@ -134,6 +134,20 @@ below_has n ys l = by (is_near n)
     by : (b : Bool) → has_label (cond b (line.Plain (instr.I Addi 9 2 (negsuc (n - 1))) ∷ []) (line.Plain (instr.U Lui 9 (high n)) ∷ line.Plain (instr.I Addi 9 9 (low n)) ∷ line.Plain (instr.R Sub 9 2 9) ∷ []) ++ ys) l ≡ has_label ys l
     by true = refl
     by false = refl
+
+some_bare : (n : ℕ) (xs ys : List Line) (l : ℕ) → has_label (xs ++ ys) l ≡ false → has_label ys l ≡ false → has_label (where_some n xs ++ ys) l ≡ false
+some_bare n xs ys l both one = by (nat_eq n 0)
+  where
+    by : (b : Bool) → has_label (cond b [] xs ++ ys) l ≡ false
+    by true = one
+    by false = both
+
+off_bare : (front size : ℕ) (ys : List Line) → ((l : ℕ) → has_label ys l ≡ false) → (l : ℕ) → has_label (off front size ys) l ≡ false
+off_bare front size ys none l =
+    let sum = line.Plain (instr.I Addi 2 (base size) (rest size)) ∷ [] in
+    let up = ap (λ xs. has_label xs l) (append_assoc (reach size) sum ys) ∙ reach_bare size (sum ++ ys) none l in
+    let tail = some_bare size (reach size ++ sum) ys l up (none l) in
+    some_bare front (line.Plain (instr.L Ld 1 2 (pos 0)) ∷ []) (where_some size (reach size ++ sum) ++ ys) l tail tail
 
 none_between : (n : ℕ) (xs : List Line) → ((l : ℕ) → has_label xs l ≡ false) → Tidy (Between n (n + 0)) xs
 none_between n xs none = tidy_weaken (λ l. ⊥) (Between n (n + 0)) xs (bare xs none) (λ l h. absurd h)
@@ -260,8 +274,8 @@ module _ (front size unwind : ℕ) where
       (line.Jump (n + 1)) (line.Plain (instr.I Addi 9 0 (pos h.exception))) (line.Branch Ne 1 9 unwind) n (flat front size unwind s.0).labels (flat front size unwind (h.body).0).labels ((flat front size unwind s.0).lines (n + 2) b c false)
       ((flat front size unwind (h.body).0).lines (n + 2 + (flat front size unwind s.0).labels) b c last) (λ l. refl) (λ l. refl) (λ l. refl) (λ l. refl) (λ l. refl) (λ l. refl) (λ l. refl) (λ l. refl) (λ l. refl)
       (s.1 (n + 2) b c false) ((h.body).1 (n + 2 + (flat front size unwind s.0).labels) b c last)
-  layer_tidy (stmt.TailCall f) n b c last = none_between n _ (reach_bare size _ (λ l. refl))
-  layer_tidy stmt.Return n b c last = none_between n _ (reach_bare size _ (λ l. refl))
+  layer_tidy (stmt.TailCall f) n b c last = none_between n _ (off_bare front size _ (λ l. refl))
+  layer_tidy stmt.Return n b c last = none_between n _ (off_bare front size _ (λ l. refl))
   layer_tidy (stmt.Raise i) n b c last = none_between n _ (λ l. refl)
 
   -- the labels of each statement's lines are distinct, from the first free one on
@@ -271,14 +285,32 @@ module _ (front size unwind : ℕ) where
 -- ---- functions
 
 -- lines without labels in front
-front_tidy : (P : ℕ → Type 0) (n : ℕ) (xs : List Line) → Tidy P xs → Tidy P (below n ++ xs)
-front_tidy P n xs a = by (is_near n)
+below_tidy : (P : ℕ → Type 0) (n : ℕ) (xs : List Line) → Tidy P xs → Tidy P (below n ++ xs)
+below_tidy P n xs a = by (is_near n)
   where
     by : (b : Bool) → Tidy P (cond b (line.Plain (instr.I Addi 9 2 (negsuc (n - 1))) ∷ []) (line.Plain (instr.U Lui 9 (high n)) ∷ line.Plain (instr.I Addi 9 9 (low n)) ∷ line.Plain (instr.R Sub 9 2 9) ∷ []) ++ xs)
     by true = tidy_other P (line.Plain (instr.I Addi 9 2 (negsuc (n - 1)))) xs (λ l. refl) a
     by false =
         tidy_other P (line.Plain (instr.U Lui 9 (high n))) (line.Plain (instr.I Addi 9 9 (low n)) ∷ line.Plain (instr.R Sub 9 2 9) ∷ xs) (λ l. refl)
         (tidy_other P (line.Plain (instr.I Addi 9 9 (low n))) (line.Plain (instr.R Sub 9 2 9) ∷ xs) (λ l. refl) (tidy_other P (line.Plain (instr.R Sub 9 2 9)) xs (λ l. refl) a))
+
+some_tidy : (P : ℕ → Type 0) (n : ℕ) (xs ys : List Line) → Tidy P (xs ++ ys) → Tidy P ys → Tidy P (where_some n xs ++ ys)
+some_tidy P n xs ys both one = by (nat_eq n 0)
+  where
+    by : (b : Bool) → Tidy P (cond b [] xs ++ ys)
+    by true = one
+    by false = both
+
+front_tidy : (P : ℕ → Type 0) (front size stub : ℕ) (ys : List Line) → Tidy P ys → Tidy P (front_lines front size stub ++ ys)
+front_tidy P front size stub ys a =
+    let branch = line.Branch Ltu 9 4 stub in
+    let sum = line.Plain (instr.I Addi 2 9 (pos 0)) in
+    let store = line.Plain (instr.S Sd 2 1 (pos 0)) in
+    let rest = where_some front (store ∷ []) ++ ys in
+    let linked = some_tidy P front (store ∷ []) ys (tidy_other P store ys (λ l. refl) a) a in
+    let under = below_tidy P size (branch ∷ sum ∷ rest) (tidy_other P branch (sum ∷ rest) (λ l. refl) (tidy_other P sum rest (λ l. refl) linked)) in
+    subst (Tidy P) (sym (append_assoc (where_some size (below size ++ branch ∷ sum ∷ [])) (where_some front (store ∷ [])) ys))
+    (some_tidy P size (below size ++ branch ∷ sum ∷ []) rest (subst (Tidy P) (sym (append_assoc (below size) (branch ∷ sum ∷ []) rest)) under) linked)
 
 -- the labels of a function's lines: its own, and those of its statements
 abbrev pub OfFunction : ℕ → ℕ → ℕ → ℕ → Type 0
@@ -288,11 +320,8 @@ function_tidy : (f n stub unwind : ℕ) (fn : StackFun) → f < n → Tidy (OfFu
 function_tidy f n stub unwind fn less =
     let body = (flat (front_words fn) fn.frame unwind fn.body).lines n stub stub false in
     let P = Between n (n + (flat (front_words fn) fn.frame unwind fn.body).labels) in
-    tidy_label P f (below fn.frame ++ line.Branch Ltu 9 4 stub ∷ line.Plain (instr.I Addi 2 9 (pos 0)) ∷ line.Plain (instr.S Sd 2 1 (pos 0)) ∷ body)
-    (front_tidy P fn.frame (line.Branch Ltu 9 4 stub ∷ line.Plain (instr.I Addi 2 9 (pos 0)) ∷ line.Plain (instr.S Sd 2 1 (pos 0)) ∷ body)
-    (tidy_other P (line.Branch Ltu 9 4 stub) (line.Plain (instr.I Addi 2 9 (pos 0)) ∷ line.Plain (instr.S Sd 2 1 (pos 0)) ∷ body) (λ l. refl)
-    (tidy_other P (line.Plain (instr.I Addi 2 9 (pos 0))) (line.Plain (instr.S Sd 2 1 (pos 0)) ∷ body) (λ l. refl)
-    (tidy_other P (line.Plain (instr.S Sd 2 1 (pos 0))) body (λ l. refl) (flat_tidy (front_words fn) fn.frame unwind fn.body n stub stub false)))))
+    tidy_label P f (front_lines (front_words fn) fn.frame stub ++ body)
+    (front_tidy P (front_words fn) fn.frame stub body (flat_tidy (front_words fn) fn.frame unwind fn.body n stub stub false))
     (λ h. omega arith)
 
 functions_tidy : (stub unwind : ℕ) (gs : List StackFun) (f n : ℕ) → f + length gs ≤ n → Tidy (λ l. Between f (f + length gs) l ⊎ Between n (n + labels_in unwind gs) l) (functions_lines stub unwind gs f n)

@@ -16,7 +16,7 @@ use Rattle.stack_lang.specs.Frame.{Frame}
 use Rattle.stack_lang.specs.Meaning.{World, Outcome, Callee, Does, ran, asked}
 use Rattle.lab_flatten.specs.Flatten.{slot_at}
 use Rattle.lab_flatten.proofs.Hiding.{apart, Follows, Agree}
-use Rattle.lab_flatten.proofs.Machine.{Sets, word, saved, Outer, outer_on, Kept, kept_on, sets_kept, follows_kept, saved_kept, Ready, Begins, ready_kept}
+use Rattle.lab_flatten.proofs.Machine.{Sets, word, saved, Outer, outer_on, Kept, kept_on, sets_kept, follows_kept, Ready, Begins, ready_kept}
 use Rattle.lab_flatten.proofs.Lines.{settled, At, Goes, line_goes, Moved}
 
 -- what is seen of a run that has come to this world and goes on so
@@ -81,7 +81,7 @@ module _ (lines : List Line) (layout : List (ℕ × ℕ)) where
     pub state : State
     pub sees : Sees front size v state
     pub pc : state.pc ≡ on
-    pub kept : Kept size t state
+    pub kept : Kept front size t state
     pub by : Steps t w state w'
 
   -- a function is left, to the address, with the stack pointer there
@@ -114,7 +114,7 @@ module _ (lines : List Line) (layout : List (ℕ × ℕ)) where
         state = m.state;
         sees = sets_sees 9 m.nine front size v t m.state m.sets (apart 2 9 refl) h;
         pc = m.pc;
-        kept = sets_kept 9 m.nine size t m.state m.sets (apart 4 9 refl) (apart 8 9 refl) (apart 2 9 refl);
+        kept = sets_kept 9 m.nine front size t m.state m.sets (apart 4 9 refl) (apart 8 9 refl) (apart 2 9 refl) (apart 1 9 refl);
         by = steps_goes t w m.state w' m.steps m.goes replies trace (omega arith) (omega arith);
       }
 
@@ -134,7 +134,7 @@ module _ (lines : List Line) (layout : List (ℕ × ℕ)) where
     Lands front size (Normal v w') t w on out again = Comes front size t w v w' on
     Lands front size (Broken v w') t w on out again = Comes front size t w v w' out
     Lands front size (Continued v w') t w on out again = Comes front size t w v w' again
-    Lands front size (Returned x w') t w on out again = Returns (reg t 2 + size) (saved t) t w x w'
+    Lands front size (Returned x w') t w on out again = Returns (reg t 2 + size) (saved front t) t w x w'
     Lands front size (Raised i x w') t w on out again = Threw (reg t 2 + size) t w i x w'
     Lands front size (Over e w') t w on out again = e ≢ Fails → Stops t w e w'
 
@@ -156,17 +156,17 @@ module _ (lines : List Line) (layout : List (ℕ × ℕ)) where
       state = b.state;
       sees = b.sees;
       pc = b.pc;
-      kept = kept_on size t a.state b.state a.kept b.kept;
+      kept = kept_on front size t a.state b.state a.kept b.kept;
       by = steps_on t w a.state w1 b.state w2 a.by b.by;
     }
 
-    pub returns_on : (size : ℕ) (t : State) (w : World) (u : State) (w1 : World) (x : Frame) (w2 : World) → Kept size t u → Steps t w u w1 → Returns (reg u 2 + size) (saved u) u w1 x w2 → Returns (reg t 2 + size) (saved t) t w x w2
-    returns_on size t w u w1 x w2 k a b =
+    pub returns_on : (front size : ℕ) (t : State) (w : World) (u : State) (w1 : World) (x : Frame) (w2 : World) → Kept front size t u → Steps t w u w1 → Returns (reg u 2 + size) (saved front u) u w1 x w2 → Returns (reg t 2 + size) (saved front t) t w x w2
+    returns_on front size t w u w1 x w2 k a b =
         let sp = k.sp in
         record {
           state = b.state;
           seen = b.seen;
-          pc = b.pc ∙ saved_kept size t u k;
+          pc = b.pc ∙ k.link;
           sp = b.sp ∙ ap (λ n. n + size) sp;
           outer = outer_on (reg t 2 + size) (reg u 2 + size) t u b.state k.outer b.outer (omega (arith, sp));
           by = steps_on t w u w1 b.state w2 a b.by;
@@ -183,24 +183,24 @@ module _ (lines : List Line) (layout : List (ℕ × ℕ)) where
       by = steps_on t w u w1 b.state w2 a b.by;
     }
 
-    pub lands_by : (front size : ℕ) (o : Outcome Frame Frame) (t : State) (w : World) (u : State) (w1 : World) (on out again : ℕ) → Kept size t u → Steps t w u w1 → Lands front size o u w1 on out again → Lands front size o t w on out again
-    lands_by front size (Normal v w2) t w u w1 on out again k a b = record { state = b.state; sees = b.sees; pc = b.pc; kept = kept_on size t u b.state k b.kept; by = steps_on t w u w1 b.state w2 a b.by }
-    lands_by front size (Broken v w2) t w u w1 on out again k a b = record { state = b.state; sees = b.sees; pc = b.pc; kept = kept_on size t u b.state k b.kept; by = steps_on t w u w1 b.state w2 a b.by }
-    lands_by front size (Continued v w2) t w u w1 on out again k a b = record { state = b.state; sees = b.sees; pc = b.pc; kept = kept_on size t u b.state k b.kept; by = steps_on t w u w1 b.state w2 a b.by }
-    lands_by front size (Returned x w2) t w u w1 on out again k a b = returns_on size t w u w1 x w2 k a b
+    pub lands_by : (front size : ℕ) (o : Outcome Frame Frame) (t : State) (w : World) (u : State) (w1 : World) (on out again : ℕ) → Kept front size t u → Steps t w u w1 → Lands front size o u w1 on out again → Lands front size o t w on out again
+    lands_by front size (Normal v w2) t w u w1 on out again k a b = record { state = b.state; sees = b.sees; pc = b.pc; kept = kept_on front size t u b.state k b.kept; by = steps_on t w u w1 b.state w2 a b.by }
+    lands_by front size (Broken v w2) t w u w1 on out again k a b = record { state = b.state; sees = b.sees; pc = b.pc; kept = kept_on front size t u b.state k b.kept; by = steps_on t w u w1 b.state w2 a b.by }
+    lands_by front size (Continued v w2) t w u w1 on out again k a b = record { state = b.state; sees = b.sees; pc = b.pc; kept = kept_on front size t u b.state k b.kept; by = steps_on t w u w1 b.state w2 a b.by }
+    lands_by front size (Returned x w2) t w u w1 on out again k a b = returns_on front size t w u w1 x w2 k a b
     lands_by front size (Raised i x w2) t w u w1 on out again k a b = let sp = k.sp in threw_on (reg t 2 + size) (reg u 2 + size) t w u w1 i x w2 k.outer (omega (arith, sp)) a b
     lands_by front size (Over e w2) t w u w1 on out again k a b = λ ok. stops_by t w u w1 e w2 a (b ok)
 
     -- from each state at this place the meaning lands
     abbrev pub LandsFrom : ℕ → ℕ → Does → ℕ → ℕ → ℕ → ℕ → Type 0
-    LandsFrom front size m at on out again = (t : State) (v : Frame) → t.pc ≡ at → Ready size t → Sees front size v t → (w : World) → Lands front size (m v w) t w on out again
+    LandsFrom front size m at on out again = (t : State) (v : Frame) → t.pc ≡ at → Ready front size t → Sees front size v t → (w : World) → Lands front size (m v w) t w on out again
 
-    pub after_comes : (front size : ℕ) (m : Does) (t : State) (w : World) (v1 : Frame) (w1 : World) (mid on out again : ℕ) → Ready size t → Comes front size t w v1 w1 mid → LandsFrom front size m mid on out again
+    pub after_comes : (front size : ℕ) (m : Does) (t : State) (w : World) (v1 : Frame) (w1 : World) (mid on out again : ℕ) → Ready front size t → Comes front size t w v1 w1 mid → LandsFrom front size m mid on out again
         → Lands front size (m v1 w1) t w on out again
     after_comes front size m t w v1 w1 mid on out again r a b =
-        lands_by front size (m v1 w1) t w a.state w1 on out again a.kept a.by (b a.state v1 a.pc (ready_kept size t a.state r a.kept) a.sees w1)
+        lands_by front size (m v1 w1) t w a.state w1 on out again a.kept a.by (b a.state v1 a.pc (ready_kept front size t a.state r a.kept) a.sees w1)
 
-    pub then_lands : (front size : ℕ) (o : Outcome Frame Frame) (m : Does) (t : State) (w : World) (mid on out again : ℕ) → Ready size t → Lands front size o t w mid out again → LandsFrom front size m mid on out again
+    pub then_lands : (front size : ℕ) (o : Outcome Frame Frame) (m : Does) (t : State) (w : World) (mid on out again : ℕ) → Ready front size t → Lands front size o t w mid out again → LandsFrom front size m mid on out again
         → Lands front size (and_then o m) t w on out again
     then_lands front size (Normal v1 w1) m t w mid on out again r a b = after_comes front size m t w v1 w1 mid on out again r a b
     then_lands front size (Broken v1 w1) m t w mid on out again r a b = a
@@ -222,7 +222,7 @@ module _ (lines : List Line) (layout : List (ℕ × ℕ)) where
         state = u;
         sees = after_sees s u a.0 a.1;
         pc = (a.1).pc;
-        kept = follows_kept size t u a.1;
+        kept = follows_kept front size t u a.1;
         by = steps_goes t w u (tolled 1 w) 1 (line_goes lines layout t u 0 1 refl e) refl refl (omega arith) (omega arith);
       }
       ran_lands (Runs s) (Waits q u) e a = absurd a
@@ -250,7 +250,7 @@ module _ (lines : List Line) (layout : List (ℕ × ℕ)) where
                 state = resumed q u r;
                 sees = after_sees (resumed p s r) (resumed q u r) agree.0 agree.1;
                 pc = (agree.1).pc;
-                kept = follows_kept size t (resumed q u r) agree.1;
+                kept = follows_kept front size t (resumed q u r) agree.1;
                 by = λ k. (
                   suc k,
                   omega (arith, fuel),

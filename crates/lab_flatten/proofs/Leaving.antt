@@ -21,7 +21,7 @@ use Rattle.stack_lang.specs.Frame.{Frame, with_register, with_slot, back_with}
 use Rattle.stack_lang.specs.Meaning.{World, Outcome, Callee, Does, more, after, caught, calls}
 use Rattle.lab_flatten.specs.Flatten.{slot_at, reach, base, rest, off, pushed, unwind_lines}
 use Rattle.lab_flatten.proofs.Hiding.{apart, hidden_1, hide_hide, reg_hide, with_reg_seen, shown_of, Follows, follows_reg}
-use Rattle.lab_flatten.proofs.Machine.{sets_reg, sets_pc, word, map_kept, loads_word, stored, stores_word, Stored, stored_is, stored_keeps, plus_small, Outer, outer_on, sets_outer, stored_outer, kept_on, sets_kept, follows_kept, saved, IsFrame, Ready, Begins, frame_word}
+use Rattle.lab_flatten.proofs.Machine.{sets_reg, sets_pc, word, map_kept, loads_word, stored, stores_word, Stored, stored_is, stored_keeps, plus_small, Outer, outer_on, sets_outer, stored_outer, kept_on, sets_kept, follows_kept, saved, saved_same, IsFrame, Ready, Begins, frame_word}
 use Rattle.lab_flatten.proofs.Lines.{At, Here, Stands, stands_split, stands_at, past_label, goes_on, step_plain, step_reg, Moved, jump_moved, call_moved, jump_back, reached, Unframed, unframed}
 use Rattle.lab_flatten.proofs.Lands.{Sees, sets_sees, Steps, steps_on, steps_goes, Comes, stops_by, stops_spent, moved_comes, Lands, Leaves, Enters, threw_on, LandsFrom, then_lands}
 use Rattle.lab_flatten.proofs.Calls.{reg_zero, word_same, is_word_same, Pushed, pushes, Caller, begins_of, guarded_left}
@@ -34,17 +34,17 @@ module _ (lines : List Line) (layout : List (ℕ × ℕ)) (unwind_at : ℕ) wher
   To front size o t w on out again = Lands lines layout unwind_at front size o t w on out again
 
   -- a jump with its part of the toll
-  pub jump_lands : (front size l n at to : ℕ) (t : State) (v : Frame) (w : World) → t.pc ≡ at → Ready size t → Sees front size v t → Here lines layout (line.Jump l) n at → At lines layout l to → Comes lines layout front size t w v (tolled 2 w) to
+  pub jump_lands : (front size l n at to : ℕ) (t : State) (v : Frame) (w : World) → t.pc ≡ at → Ready front size t → Sees front size v t → Here lines layout (line.Jump l) n at → At lines layout l to → Comes lines layout front size t w v (tolled 2 w) to
   jump_lands front size l n at to t v w e r s here there =
       moved_comes lines layout front size t to 2 v w (tolled 2 w) (jump_moved lines layout t l n to r.count (subst (Here lines layout (line.Jump l) n) (sym e) here) there) s refl refl (omega arith) (omega arith)
 
   -- ---- a call under a handler
 
-  module _ (unwind uncaught unwind_end : ℕ) (unwind_stands : Stands lines layout unwind_at (unwind_lines unwind uncaught) unwind_end) (front size : ℕ) (frame : IsFrame front size) (three : front ≡ 3) where
-    pushed_caller : (handler : ℕ) (t : State) → Ready size t → (p : Pushed lines layout handler t) → Caller lines layout p.state
+  module _ (unwind uncaught unwind_end : ℕ) (unwind_stands : Stands lines layout unwind_at (unwind_lines unwind uncaught) unwind_end) (front size : ℕ) (frame : IsFrame front size) (three : 3 ≤ front) where
+    pushed_caller : (handler : ℕ) (t : State) → Ready front size t → (p : Pushed lines layout handler t) → Caller lines layout p.state
     pushed_caller handler t r p =
         let sp = p.sp in let newest = p.newest in
-        let wide = frame.wide in let least = frame.some in
+        let wide = frame.wide in
         record {
           map = map_kept t.memory (p.state).memory r.map p.sizes;
           count = p.count ∙ r.count;
@@ -116,12 +116,12 @@ module _ (lines : List Line) (layout : List (ℕ × ℕ)) (unwind_at : ℕ) wher
   -- ---- a tail call, a return, a raise
 
   module _ (front size : ℕ) (frame : IsFrame front size) where
-    unframed_begins : (t : State) (xs : List Line) (end to most : ℕ) → Ready size t → (u : Unframed lines layout size t xs end) → (m : Moved lines layout u.state to most) → Begins m.state
+    unframed_begins : (t : State) (xs : List Line) (end to most : ℕ) → Ready front size t → (u : Unframed lines layout front size t xs end) → (m : Moved lines layout u.state to most) → Begins m.state
     unframed_begins t xs end to most r u m =
         let o = u.outer in
         let s = m.sets in
         let sp : reg (m.state) 2 ≡ reg t 2 + size = s.other 2 (apart 2 9 refl) ∙ u.sp in
-        let link : reg (m.state) 1 ≡ saved t = s.other 1 (apart 1 9 refl) ∙ u.link in
+        let link : reg (m.state) 1 ≡ saved front t = s.other 1 (apart 1 9 refl) ∙ u.link in
         let out = outer_on (reg t 2 + size) (reg t 2 + size) t u.state m.state o (sets_outer 9 m.nine (reg t 2 + size) u.state m.state s (apart 4 9 refl) (apart 8 9 refl)) (omega arith) in
         let even = frame.whole in
         record {
@@ -136,7 +136,7 @@ module _ (lines : List Line) (layout : List (ℕ × ℕ)) (unwind_at : ℕ) wher
           newest = let h = r.newest in let e = out.newest in omega arith;
         }
 
-    tail_left : (t e : State) (w w3 : World) (to out again : ℕ) → Outer (reg t 2 + size) t e → reg e 2 ≡ reg t 2 + size → reg e 1 ≡ saved t → Steps lines layout t w e w3
+    tail_left : (t e : State) (w w3 : World) (to out again : ℕ) → Outer (reg t 2 + size) t e → reg e 2 ≡ reg t 2 + size → reg e 1 ≡ saved front t → Steps lines layout t w e w3
         → (o : Outcome (Unit {0}) Frame) → Leaves lines layout unwind_at o e w3 → To front size (left o) t w to out again
     tail_left t e w w3 to out again outer sp link a (Normal x w') b = λ ok. absurd (ok refl)
     tail_left t e w w3 to out again outer sp link a (Broken x w') b = λ ok. absurd (ok refl)
@@ -152,19 +152,19 @@ module _ (lines : List Line) (layout : List (ℕ × ℕ)) (unwind_at : ℕ) wher
     tail_left t e w w3 to out again outer sp link a (Raised i x w') b = threw_on lines layout unwind_at (reg t 2 + size) (reg e 2) t w e w3 i x w' outer (omega (arith, sp)) a b
     tail_left t e w w3 to out again outer sp link a (Over e' w') b = λ ok. stops_by lines layout t w e w3 e' w' a (b ok)
 
-    pub tail_lands : (g : Callee) → Enters lines layout unwind_at g → (f entry at to out again : ℕ) → Stands lines layout at (off size (line.Jump f ∷ [])) to → At lines layout f entry
+    pub tail_lands : (g : Callee) → Enters lines layout unwind_at g → (f entry at to out again : ℕ) → Stands lines layout at (off front size (line.Jump f ∷ [])) to → At lines layout f entry
         → From front size (λ v w. tail_call (after 6 g) f (Some (record v { room = v.room + size })) w) at to out again
     tail_lands g enters f entry at to out again stands there t v e r s w = by w.fuel refl
       where
         by : (k : ℕ) → w.fuel ≡ k → To front size (spend_of k w (λ w. left (after 6 g f (record v { room = v.room + size }) (leaving w)))) t w to out again
         by zero fuel = λ ok. stops_spent lines layout t w w refl refl refl
         by (suc k) fuel =
-            let u = unframed lines layout front size t (line.Jump f ∷ []) to frame r (stands_at lines layout at t.pc (off size (line.Jump f ∷ [])) to (sym e) stands) in
+            let u = unframed lines layout front size t (line.Jump f ∷ []) to frame r (stands_at lines layout at t.pc (off front size (line.Jump f ∷ [])) to (sym e) stands) in
             let count : length (u.state).registers ≡ 32 = (u.outer).count ∙ r.count in
             let m = jump_moved lines layout u.state f (u.stands).0 entry count (u.stands).1 there in
             let y = m.state in
             let sp : reg y 2 ≡ reg t 2 + size = (m.sets).other 2 (apart 2 9 refl) ∙ u.sp in
-            let link : reg y 1 ≡ saved t = (m.sets).other 1 (apart 1 9 refl) ∙ u.link in
+            let link : reg y 1 ≡ saved front t = (m.sets).other 1 (apart 1 9 refl) ∙ u.link in
             let outer = outer_on (reg t 2 + size) (reg t 2 + size) t u.state y u.outer (sets_outer 9 m.nine (reg t 2 + size) u.state y m.sets (apart 4 9 refl) (apart 8 9 refl)) (omega arith) in
             let w3 = tolled 6 (leaving (record w { fuel = k })) in
             let few = u.few in let most = m.few in let some = m.some in
@@ -173,12 +173,12 @@ module _ (lines : List Line) (layout : List (ℕ × ℕ)) (unwind_at : ℕ) wher
             (steps_goes lines layout t w y w3 (u.steps + m.steps) (goes_on lines layout t u.state y u.steps m.steps u.goes m.goes) refl refl (omega arith) (omega arith))
             (g f (record v { room = v.room + size }) w3) (enters f entry there y m.pc (unframed_begins t (line.Jump f ∷ []) to entry 2 r u m) (record v { room = v.room + size }) ((m.sets).seen ∙ u.seen ∙ s.seen) (omega arith) w3)
 
-    pub return_lands : (at to out again : ℕ) → Stands lines layout at (off size (line.JumpReg 1 ∷ [])) to → From front size (λ v w. Returned v (tolled 5 w)) at to out again
+    pub return_lands : (at to out again : ℕ) → Stands lines layout at (off front size (line.JumpReg 1 ∷ [])) to → From front size (λ v w. Returned v (tolled 5 w)) at to out again
     return_lands at to out again stands t v e r s w =
-        let u = unframed lines layout front size t (line.JumpReg 1 ∷ []) to frame r (stands_at lines layout at t.pc (off size (line.JumpReg 1 ∷ [])) to (sym e) stands) in
-        let y = record u.state { pc = saved t } in
-        let z = sets_pc 9 u.state (saved t) in
-        let g = jump_back lines layout u.state 1 (saved t) to [] u.stands u.link r.back r.back_word in
+        let u = unframed lines layout front size t (line.JumpReg 1 ∷ []) to frame r (stands_at lines layout at t.pc (off front size (line.JumpReg 1 ∷ [])) to (sym e) stands) in
+        let y = record u.state { pc = saved front t } in
+        let z = sets_pc 9 u.state (saved front t) in
+        let g = jump_back lines layout u.state 1 (saved front t) to [] u.stands u.link r.back r.back_word in
         let few = u.few in
         record {
           state = y;
@@ -213,7 +213,7 @@ module _ (lines : List Line) (layout : List (ℕ × ℕ)) (unwind_at : ℕ) wher
   -- ---- slots
 
   module _ (front size : ℕ) (frame : IsFrame front size) where
-    low_of : (t : State) → Ready size t → reg t 2 ≤ 0x40000000
+    low_of : (t : State) → Ready front size t → reg t 2 ≤ 0x40000000
     low_of t r = let a = r.frame in let b = (r.map).stack in omega arith
 
     pub get_lands : (r k at to out again : ℕ) → IsWritable r → 8 * (front + k + 1) ≤ size → Stands lines layout at (reach (slot_at front k) ++ line.Plain (instr.L Ld r (base (slot_at front k)) (rest (slot_at front k))) ∷ []) to
@@ -230,7 +230,7 @@ module _ (lines : List Line) (layout : List (ℕ × ℕ)) (unwind_at : ℕ) wher
             let a = reg t 2 + d in
             let n' = word q a in
             let value : n' ≡ n = word_same t q a (m.sets).memory ∙ s.slots k n inside is in
-            let st = step_reg lines layout (instr.L Ld r (base d) (rest d)) [] to q r n' m.stands (loads_word q r (base d) (rest d) a (is_word_same t q a (m.sets).memory (frame_word size d t ready (omega arith) (omega arith))) m.place) in
+            let st = step_reg lines layout (instr.L Ld r (base d) (rest d)) [] to q r n' m.stands (loads_word q r (base d) (rest d) a (is_word_same t q a (m.sets).memory (frame_word front size d t ready (omega arith) (omega arith))) m.place) in
             let u = next (with_reg q r n') in
             let f = follows_reg q r n' writable in
             let sq = sets_sees 9 m.nine front size v t q m.sets (apart 2 9 refl) s in
@@ -240,15 +240,15 @@ module _ (lines : List Line) (layout : List (ℕ × ℕ)) (unwind_at : ℕ) wher
               state = u;
               sees = after_get q u sq f (with_reg_seen r n' (shown_of r writable) q v.seen twice ∙ ap (λ n. hide (with_reg v.seen r n)) value);
               pc = st.1;
-              kept = kept_on size t q u (sets_kept 9 m.nine size t q m.sets (apart 4 9 refl) (apart 8 9 refl) (apart 2 9 refl)) (follows_kept size q u f);
+              kept = kept_on front size t q u (sets_kept 9 m.nine front size t q m.sets (apart 4 9 refl) (apart 8 9 refl) (apart 2 9 refl) (apart 1 9 refl)) (follows_kept front size q u f);
               by = steps_goes lines layout t w u (tolled 3 w) (m.steps + 1) (goes_on lines layout t q u m.steps 1 m.goes st.0) refl refl (omega arith) (omega arith);
             }
           where
             after_get : (q u : State) → Sees front size v q → Follows q u → hide u ≡ hide (with_reg v.seen r n) → Sees front size (with_register v r n) u
             after_get q u sq f seen = record {
               seen = seen;
-              room = (follows_kept size q u f).sp ∙ sq.room;
-              slots = λ j n le is. ap (λ a. word u (a + slot_at front j)) (follows_kept size q u f).sp ∙ word_stack q u (reg q 2 + slot_at front j) f.stack ∙ sq.slots j n le is;
+              room = (follows_kept front size q u f).sp ∙ sq.room;
+              slots = λ j n le is. ap (λ a. word u (a + slot_at front j)) (follows_kept front size q u f).sp ∙ word_stack q u (reg q 2 + slot_at front j) f.stack ∙ sq.slots j n le is;
             }
               where
                 word_stack : (q u : State) (a : ℕ) → (u.memory).stack ≡ (q.memory).stack → word u a ≡ word q a
@@ -262,7 +262,7 @@ module _ (lines : List Line) (layout : List (ℕ × ℕ)) (unwind_at : ℕ) wher
         let m = reached lines layout d t (line.Plain (instr.S Sd (base d) r (rest d)) ∷ []) to ready.count (low_of t ready) (omega arith) (stands_at lines layout at t.pc (reach d ++ line.Plain (instr.S Sd (base d) r (rest d)) ∷ []) to (sym e) stands) in
         let q = m.state in
         let a = reg t 2 + d in
-        let iw = is_word_same t q a (m.sets).memory (frame_word size d t ready (omega arith) (omega arith)) in
+        let iw = is_word_same t q a (m.sets).memory (frame_word front size d t ready (omega arith) (omega arith)) in
         let n = reg q r in
         let value : n ≡ reg v.seen r = (m.sets).other r visible.1 ∙ sym (reg_hide t r visible) ∙ ap (λ y. reg y r) s.seen in
         let u = stored q a n in
@@ -280,8 +280,8 @@ module _ (lines : List Line) (layout : List (ℕ × ℕ)) (unwind_at : ℕ) wher
             slots = λ j i le is. slot_of q u n z sq (z.regs 2) sp value low j i le (nat_eq j k) refl is;
           };
           pc = st.1;
-          kept = kept_on size t q u (sets_kept 9 m.nine size t q m.sets (apart 4 9 refl) (apart 8 9 refl) (apart 2 9 refl))
-              (record { outer = stored_outer a n (reg q 2 + size) q u z (omega arith); sp = z.regs 2; link = stored_keeps a n (reg q 2) q u z (omega arith) (inl (omega arith)) });
+          kept = kept_on front size t q u (sets_kept 9 m.nine front size t q m.sets (apart 4 9 refl) (apart 8 9 refl) (apart 2 9 refl) (apart 1 9 refl))
+              (record { outer = stored_outer a n (reg q 2 + size) q u z (omega arith); sp = z.regs 2; link = saved_same front q u (λ none. z.regs 1) (λ some. ap (word u) (z.regs 2) ∙ stored_keeps a n (reg q 2) q u z (omega arith) (inl (omega arith))) });
           by = steps_goes lines layout t w u (tolled 3 w) (m.steps + 1) (goes_on lines layout t q u m.steps 1 m.goes st.0) refl refl (omega arith) (omega arith);
         }
       where

@@ -1,6 +1,6 @@
 -- Lines at their places, and what one of them, or a fixed row of them, does to the machine.
-use Rattle.std.proofs.Common.{◌≡◌, ℕ, pos, negsuc, zero, suc, ◌+◌, ◌-◌, ◌*◌, ◌/◌, ◌%◌, ◌^◌, ◌<◌, ◌≤◌, refl, sym, ap, ◌∙◌, subst, Bool, true, false, cond, List, [], ◌∷◌, ◌++◌, length, Some, inl, inr, arith}
-use Rattle.std.specs.Prelude.{◌⊎◌}
+use Rattle.std.proofs.Common.{◌≡◌, ℕ, pos, negsuc, zero, suc, ◌+◌, ◌-◌, ◌*◌, ◌/◌, ◌%◌, ◌^◌, ◌<◌, ◌≤◌, refl, sym, ap, ◌∙◌, subst, Bool, true, false, cond, List, [], ◌∷◌, ◌++◌, append_assoc, length, Some, inl, inr, arith}
+use Rattle.std.specs.Prelude.{◌⊎◌, nat_eq}
 use Rattle.std.proofs.lemmas.Bool.Decides.{nat_tests}
 use Rattle.pan_base.specs.Words.{compare, signed}
 use Rattle.pan_base.specs.declared.operators.Cmp.{Cmp}
@@ -20,9 +20,9 @@ use Rattle.lab_lang.specs.declared.syntax.Line.TheVariants as line
 use Rattle.lab_lang.specs.Layout.{found, address}
 use Rattle.lab_lang.specs.Meaning.{State as Working, once, comes, aimed, by_way, act_laid, step}
 use Rattle.stack_lang.specs.Shown.{hide}
-use Rattle.lab_flatten.specs.Flatten.{high, low as low_part, is_near, reach, base, rest, below, off}
+use Rattle.lab_flatten.specs.Flatten.{high, low as low_part, is_near, reach, base, rest, where_some, below, off}
 use Rattle.lab_flatten.proofs.Hiding.{apart, hidden_1, hidden_2, hidden_9}
-use Rattle.lab_flatten.proofs.Machine.{Sets, sets_reg, sets_on, sets_none, sets_pc, IsWord, loads_word, plus_zero, plus_small, plus_down, Outer, outer_on, sets_outer, saved, IsFrame, Ready, frame_word}
+use Rattle.lab_flatten.proofs.Machine.{Sets, sets_reg, sets_on, sets_none, sets_pc, IsWord, loads_word, plus_zero, plus_small, plus_down, word, Outer, outer_on, sets_outer, kept_self, saved, IsFrame, Ready, frame_word}
 
 -- ---- offsets
 
@@ -285,45 +285,111 @@ module _ (lines : List Line) (layout : List (ℕ × ℕ)) where
 
   -- ---- the frame is given up
 
-  pub record Unframed (size : ℕ) (t : State) (xs : List Line) (end : ℕ) : Type 0 where
+  -- the return address comes into x1
+  record Linked (front : ℕ) (t : State) (xs : List Line) (end : ℕ) : Type 0 where
+    state : State
+    sets : Sets 1 (saved front t) t state
+    steps : ℕ
+    few : steps ≤ 1
+    goes : Goes t state steps
+    stands : Stands state.pc xs end
+
+  linked : (front size : ℕ) (t : State) (xs : List Line) (end : ℕ) → IsFrame front size → Ready front size t → Stands t.pc (where_some front (line.Plain (instr.L Ld 1 2 (pos 0)) ∷ []) ++ xs) end → Linked front t xs end
+  linked front size t xs end f r h = by (nat_eq front 0) refl
+    where
+      zero_off : reg t 2 + 0 ≡ reg t 2
+      zero_off = omega arith
+
+      by : (b : Bool) → nat_eq front 0 ≡ b → Linked front t xs end
+      by true is =
+          let from : reg t 1 ≡ saved front t = ap (λ b. cond b (reg t 1) (word t (reg t 2))) (sym is) in
+          record { state = t; sets = subst (λ n. Sets 1 n t t) from (sets_none 1 t); steps = 0; few = omega arith; goes = goes_none t; stands = subst (λ b. Stands t.pc (cond b [] (line.Plain (instr.L Ld 1 2 (pos 0)) ∷ []) ++ xs) end) is h }
+      by false is =
+          let some : 0 < front = grind (arith, nat_tests) in
+          let low : reg t 2 ≤ 0x40000000 = (let a = r.frame in let b = (r.map).stack in omega arith) in
+          let from : word t (reg t 2) ≡ saved front t = ap (λ b. cond b (reg t 1) (word t (reg t 2))) (sym is) in
+          let n = word t (reg t 2) in
+          let w : IsWord t (reg t 2) = subst (λ a. IsWord t a) zero_off (frame_word front size 0 t r refl (let x = f.wide in omega arith)) in
+          let u = next (with_reg t 1 n) in
+          let a = step_reg (instr.L Ld 1 2 (pos 0)) xs end t 1 n (subst (λ b. Stands t.pc (cond b [] (line.Plain (instr.L Ld 1 2 (pos 0)) ∷ []) ++ xs) end) is h) (loads_word t 1 2 (pos 0) (reg t 2) w (plus_zero (reg t 2) (omega (arith, low)))) in
+          record { state = u; sets = subst (λ n. Sets 1 n t u) from (sets_reg 1 hidden_1 t n (next (with_reg t 1 n)).pc r.count); steps = 1; few = omega arith; goes = a.0; stands = a.1 }
+
+  -- the stack pointer comes to where it was before the frame
+  record Raised (size : ℕ) (t : State) (xs : List Line) (end : ℕ) : Type 0 where
+    state : State
+    seen : hide state ≡ hide t
+    outer : Outer (reg t 2 + size) t state
+    sp : reg state 2 ≡ reg t 2 + size
+    link : reg state 1 ≡ reg t 1
+    steps : ℕ
+    few : steps ≤ 3
+    goes : Goes t state steps
+    stands : Stands state.pc xs end
+
+  raised : (size : ℕ) (t : State) (xs : List Line) (end : ℕ) → length t.registers ≡ 32 → reg t 2 ≤ 0x40000000 → size ≤ 0x7F000
+      → Stands t.pc (where_some size (reach size ++ line.Plain (instr.I Addi 2 (base size) (rest size)) ∷ []) ++ xs) end → Raised size t xs end
+  raised size t xs end count low most h = by (nat_eq size 0) refl
+    where
+      top : ℕ
+      top = reg t 2 + size
+
+      outer_self : Outer (reg t 2 + size) t t
+      outer_self = (kept_self 0 size t).outer
+
+      by : (b : Bool) → nat_eq size 0 ≡ b → Raised size t xs end
+      by true is =
+          let none : size ≡ 0 = grind (arith, nat_tests) in
+          record { state = t; seen = refl; outer = outer_self; sp = omega (arith, none); link = refl; steps = 0; few = omega arith; goes = goes_none t; stands = subst (λ b. Stands t.pc (cond b [] (reach size ++ line.Plain (instr.I Addi 2 (base size) (rest size)) ∷ []) ++ xs) end) is h }
+      by false is =
+          let last = line.Plain (instr.I Addi 2 (base size) (rest size)) in
+          let stands : Stands t.pc (reach size ++ last ∷ xs) end = subst (λ ys. Stands t.pc ys end) (append_assoc (reach size) (last ∷ []) xs) (subst (λ b. Stands t.pc (cond b [] (reach size ++ last ∷ []) ++ xs) end) is h) in
+          let m = reached size t (last ∷ xs) end count low most stands in
+          let n = plus (reg m.state (base size)) (rest size) in
+          let u = next (with_reg m.state 2 n) in
+          let s = sets_reg 2 hidden_2 m.state n (next (with_reg m.state 2 n)).pc ((m.sets).count ∙ count) in
+          let b = step_reg (instr.I Addi 2 (base size) (rest size)) xs end m.state 2 n m.stands refl in
+          record {
+            state = u;
+            seen = s.seen ∙ (m.sets).seen;
+            outer = outer_on (reg t 2 + size) (reg t 2 + size) t m.state u (sets_outer 9 m.nine (reg t 2 + size) t m.state m.sets (apart 4 9 refl) (apart 8 9 refl)) (sets_outer 2 n (reg t 2 + size) m.state u s (apart 4 2 refl) (apart 8 2 refl)) (omega arith);
+            sp = s.value ∙ m.place;
+            link = s.other 1 (apart 1 2 refl) ∙ (m.sets).other 1 (apart 1 9 refl);
+            steps = m.steps + 1;
+            few = (let x = m.few in omega arith);
+            goes = goes_on t m.state u m.steps 1 m.goes b.0;
+            stands = b.1;
+          }
+
+  pub record Unframed (front size : ℕ) (t : State) (xs : List Line) (end : ℕ) : Type 0 where
     pub state : State
     pub seen : hide state ≡ hide t
     pub outer : Outer (reg t 2 + size) t state
     pub sp : reg state 2 ≡ reg t 2 + size
-    pub link : reg state 1 ≡ saved t
+    pub link : reg state 1 ≡ saved front t
     pub steps : ℕ
     pub few : steps ≤ 4
     pub goes : Goes t state steps
     pub stands : Stands state.pc xs end
 
-  pub unframed : (front size : ℕ) (t : State) (xs : List Line) (end : ℕ) → IsFrame front size → Ready size t → Stands t.pc (off size xs) end → Unframed size t xs end
+  pub unframed : (front size : ℕ) (t : State) (xs : List Line) (end : ℕ) → IsFrame front size → Ready front size t → Stands t.pc (off front size xs) end → Unframed front size t xs end
   unframed front size t xs end f r h =
       let low : reg t 2 ≤ 0x40000000 = (let a = r.frame in let b = (r.map).stack in omega arith) in
-      let zero_off : reg t 2 + 0 ≡ reg t 2 = omega arith in
-      let w : IsWord t (reg t 2) = subst (λ a. IsWord t a) zero_off (frame_word size 0 t r refl (let x = f.wide in let y = f.some in omega arith)) in
-      let u1 = next (with_reg t 1 (saved t)) in
-      let s1 = sets_reg 1 hidden_1 t (saved t) (next (with_reg t 1 (saved t))).pc r.count in
-      let tail = reach size ++ line.Plain (instr.I Addi 2 (base size) (rest size)) ∷ xs in
-      let a = step_reg (instr.L Ld 1 2 (pos 0)) tail end t 1 (saved t) h (loads_word t 1 2 (pos 0) (reg t 2) w (plus_zero (reg t 2) (omega (arith, low)))) in
-      let c1 = s1.count ∙ r.count in
-      let sp1 : reg u1 2 ≡ reg t 2 = s1.other 2 (apart 2 1 refl) in
-      let m = reached size u1 (line.Plain (instr.I Addi 2 (base size) (rest size)) ∷ xs) end c1 (omega (arith, sp1, low)) f.most a.1 in
-      let n = plus (reg m.state (base size)) (rest size) in
-      let u3 = next (with_reg m.state 2 n) in
-      let s3 = sets_reg 2 hidden_2 m.state n (next (with_reg m.state 2 n)).pc ((m.sets).count ∙ c1) in
-      let b = step_reg (instr.I Addi 2 (base size) (rest size)) xs end m.state 2 n m.stands refl in
+      let l = linked front size t (where_some size (reach size ++ line.Plain (instr.I Addi 2 (base size) (rest size)) ∷ []) ++ xs) end f r h in
+      let u = l.state in
+      let s = l.sets in
+      let sp1 : reg u 2 ≡ reg t 2 = s.other 2 (apart 2 1 refl) in
+      let z = raised size u xs end (s.count ∙ r.count) (omega (arith, sp1, low)) f.most l.stands in
       let top = reg t 2 + size in
       record {
-        state = u3;
-        seen = s3.seen ∙ (m.sets).seen ∙ s1.seen;
-        outer = outer_on top top t u1 u3 (sets_outer 1 (saved t) top t u1 s1 (apart 4 1 refl) (apart 8 1 refl))
-            (outer_on top top u1 m.state u3 (sets_outer 9 m.nine top u1 m.state m.sets (apart 4 9 refl) (apart 8 9 refl)) (sets_outer 2 n top m.state u3 s3 (apart 4 2 refl) (apart 8 2 refl)) (omega arith)) (omega arith);
-        sp = s3.value ∙ m.place ∙ ap (λ n. n + size) sp1;
-        link = s3.other 1 (apart 1 2 refl) ∙ (m.sets).other 1 (apart 1 9 refl) ∙ s1.value;
-        steps = 1 + (m.steps + 1);
-        few = (let x = m.few in omega arith);
-        goes = goes_on t u1 u3 1 (m.steps + 1) a.0 (goes_on u1 m.state u3 m.steps 1 m.goes b.0);
-        stands = b.1;
+        state = z.state;
+        seen = z.seen ∙ s.seen;
+        outer = outer_on top (reg u 2 + size) t u z.state (sets_outer 1 (saved front t) top t u s (apart 4 1 refl) (apart 8 1 refl)) z.outer (omega (arith, sp1));
+        sp = z.sp ∙ ap (λ n. n + size) sp1;
+        link = z.link ∙ s.value;
+        steps = l.steps + z.steps;
+        few = (let x = l.few in let y = z.few in omega arith);
+        goes = goes_on t u z.state l.steps z.steps l.goes z.goes;
+        stands = z.stands;
       }
 
   -- ---- x9 so far below x2

@@ -1,6 +1,6 @@
 -- What instructions that structured code doesn't see do to the machine: writes to hidden registers, and words of the stack.
 use Rattle.std.proofs.Common.{◌≡◌, ◌≢◌, ℕ, ℤ, pos, negsuc, ◌+◌, ◌-◌, ◌*◌, ◌%◌, ◌^◌, ◌<◌, ◌≤◌, refl, sym, ap, ◌∙◌, subst, Bool, true, false, cond, eqb, length, set, take, drop, inl, inr, arith}
-use Rattle.std.specs.Prelude.{◌⊎◌, ◌==◌}
+use Rattle.std.specs.Prelude.{◌⊎◌, ◌==◌, nat_eq}
 use Rattle.std.specs.Int.{w64, from_le_bytes}
 use Rattle.std.proofs.lemmas.List.{length-set}
 use Rattle.std.proofs.lemmas.Bool.Decides.{nat_tests}
@@ -228,62 +228,65 @@ sets_outer r n top t u s four eight = record {
 pub stored_outer : (a n top : ℕ) (t u : State) → Stored a n t u → a + 8 ≤ top → Outer top t u
 stored_outer a n top t u s le = record { sizes = s.sizes; count = s.count; limit = s.regs 4; newest = s.regs 8; above = λ m h. s.above m (omega (arith, le, h)) }
 
+-- the return address of the running function: where its frame has words before the slots, the first of them, else still in x1
+abbrev pub saved : ℕ → State → ℕ
+saved front t = cond (nat_eq front 0) (reg t 1) (word t (reg t 2))
+
+pub saved_same : (front : ℕ) (t u : State) → (front ≡ 0 → reg u 1 ≡ reg t 1) → (0 < front → word u (reg u 2) ≡ word t (reg t 2)) → saved front u ≡ saved front t
+saved_same front t u one first = by (nat_eq front 0) refl
+  where
+    by : (b : Bool) → nat_eq front 0 ≡ b → cond b (reg u 1) (word u (reg u 2)) ≡ cond b (reg t 1) (word t (reg t 2))
+    by true is = one (let e : front ≡ 0 = grind (arith, nat_tests) in e)
+    by false is = first (let e : 0 < front = grind (arith, nat_tests) in e)
+
 -- all but the frame of this size is kept, and in it the return address
-pub record Kept (size : ℕ) (t u : State) : Type 0 where
+pub record Kept (front size : ℕ) (t u : State) : Type 0 where
   pub outer : Outer (reg t 2 + size) t u
   pub sp : reg u 2 ≡ reg t 2
-  pub link : word u (reg t 2) ≡ word t (reg t 2)
+  pub link : saved front u ≡ saved front t
 
-pub kept_self : (size : ℕ) (t : State) → Kept size t t
-kept_self size t = record { outer = record { sizes = same_sizes t.memory; count = refl; limit = refl; newest = refl; above = λ m h. refl }; sp = refl; link = refl }
+pub kept_self : (front size : ℕ) (t : State) → Kept front size t t
+kept_self front size t = record { outer = record { sizes = same_sizes t.memory; count = refl; limit = refl; newest = refl; above = λ m h. refl }; sp = refl; link = refl }
 
-pub kept_on : (size : ℕ) (t u v : State) → Kept size t u → Kept size u v → Kept size t v
-kept_on size t u v a b = record {
+pub kept_on : (front size : ℕ) (t u v : State) → Kept front size t u → Kept front size u v → Kept front size t v
+kept_on front size t u v a b = record {
   outer = outer_on (reg t 2 + size) (reg u 2 + size) t u v a.outer b.outer (omega (arith, a.sp));
   sp = b.sp ∙ a.sp;
-  link = ap (word v) (sym a.sp) ∙ b.link ∙ ap (word u) a.sp ∙ a.link;
+  link = b.link ∙ a.link;
 }
 
-pub sets_kept : (r n size : ℕ) (t u : State) → Sets r n t u → 4 ≢ r → 8 ≢ r → 2 ≢ r → Kept size t u
-sets_kept r n size t u s four eight two = record {
+pub sets_kept : (r n front size : ℕ) (t u : State) → Sets r n t u → 4 ≢ r → 8 ≢ r → 2 ≢ r → 1 ≢ r → Kept front size t u
+sets_kept r n front size t u s four eight two one = record {
   outer = sets_outer r n (reg t 2 + size) t u s four eight;
   sp = s.other 2 two;
-  link = ap (λ (m : Memory). number_at B8 m.stack (reg t 2 - 0x20000000)) s.memory;
+  link = saved_same front t u (λ none. s.other 1 one) (λ some. ap (word u) (s.other 2 two) ∙ ap (λ (m : Memory). number_at B8 m.stack (reg t 2 - 0x20000000)) s.memory);
 }
 
-pub follows_kept : (size : ℕ) (t u : State) → Follows t u → Kept size t u
+pub follows_kept : (front size : ℕ) (t u : State) → Follows t u → Kept front size t u
 unfolding reg
-follows_kept size t u f = record {
+follows_kept front size t u f = record {
   outer = record { sizes = f.sizes; count = f.count; limit = f.limit; newest = f.newest; above = λ m h. ap (drop m) f.stack };
   sp = f.sp;
-  link = ap (λ xs. number_at B8 xs (reg t 2 - 0x20000000)) f.stack;
+  link = saved_same front t u (λ none. f.link) (λ some. ap (word u) f.sp ∙ ap (λ xs. number_at B8 xs (reg t 2 - 0x20000000)) f.stack);
 }
-
--- the return address in the frame of the running function
-abbrev pub saved : State → ℕ
-saved t = word t (reg t 2)
-
-pub saved_kept : (size : ℕ) (t u : State) → Kept size t u → saved u ≡ saved t
-saved_kept size t u k = ap (word u) k.sp ∙ k.link
 
 -- ---- inside a function, and where it begins
 
--- a frame has room for the words before its slots, of which there is one, is whole, and is in reach of two instructions
+-- a frame has room for the words before its slots, is whole, and is in reach of two instructions
 pub record IsFrame (front size : ℕ) : Type 0 where
-  pub some : 1 ≤ front
   pub wide : 8 * front ≤ size
   pub whole : size % 8 ≡ 0
   pub most : size ≤ 0x7F000
 
-pub record Ready (size : ℕ) (t : State) : Type 0 where
+pub record Ready (front size : ℕ) (t : State) : Type 0 where
   pub map : IsMap t.memory
   pub count : length t.registers ≡ 32
   pub whole : reg t 2 % 8 ≡ 0
   pub low : 0x20000000 ≤ reg t 2
   pub limit : reg t 4 ≡ 0x20000000
   pub frame : reg t 2 + size ≤ 0x20000000 + length t.memory.stack
-  pub back : saved t % 4 ≡ 0
-  pub back_word : saved t < 2 ^ 64
+  pub back : saved front t % 4 ≡ 0
+  pub back_word : saved front t < 2 ^ 64
   pub newest : reg t 8 < 2 ^ 64
 
 pub record Begins (t : State) : Type 0 where
@@ -297,9 +300,9 @@ pub record Begins (t : State) : Type 0 where
   pub link_word : reg t 1 < 2 ^ 64
   pub newest : reg t 8 < 2 ^ 64
 
-pub ready_kept : (size : ℕ) (t u : State) → Ready size t → Kept size t u → Ready size u
-ready_kept size t u r k =
-    let e = saved_kept size t u k in
+pub ready_kept : (front size : ℕ) (t u : State) → Ready front size t → Kept front size t u → Ready front size u
+ready_kept front size t u r k =
+    let e = k.link in
     let sp = k.sp in
     let o = k.outer in
     record {
@@ -315,8 +318,8 @@ ready_kept size t u r k =
     }
 
 -- a word of the frame
-pub frame_word : (size d : ℕ) (t : State) → Ready size t → d % 8 ≡ 0 → d + 8 ≤ size → IsWord t (reg t 2 + d)
-frame_word size d t r whole le = record {
+pub frame_word : (front size d : ℕ) (t : State) → Ready front size t → d % 8 ≡ 0 → d + 8 ≤ size → IsWord t (reg t 2 + d)
+frame_word front size d t r whole le = record {
   map = r.map;
   whole = let h = r.whole in omega arith;
   low = let h = r.low in omega arith;

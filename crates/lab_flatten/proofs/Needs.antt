@@ -6,6 +6,7 @@ use Rattle.pan_base.specs.declared.operators.ROp.TheVariants.{Add, Sub}
 use Rattle.pan_base.specs.declared.operators.SOp.TheVariants.{Sd}
 use Rattle.pan_base.specs.declared.operators.LOp.TheVariants.{Ld}
 use Rattle.pan_base.specs.declared.operators.IOp.TheVariants.{Addi}
+use Rattle.std.specs.Prelude.{nat_eq}
 use Rattle.pan_stage.specs.Sums.{sum_of}
 use Rattle.riscv_isa.specs.declared.instr.Instr.TheVariants as instr
 use Rattle.lab_lang.specs.Layout.{shortest, longest, IsLayout}
@@ -18,7 +19,7 @@ use Rattle.stack_lang.specs.declared.syntax.Stmt.{Stmt, Stmt-F, roll-Stmt, map-S
 use Rattle.stack_lang.specs.declared.syntax.Stmt.TheOpen as stmt
 use Rattle.stack_lang.proofs.Equations.{stmt_induct, code_roll}
 use Rattle.pan_base.specs.declared.operators.Cmp.{Cmp}
-use Rattle.lab_flatten.specs.Flatten.{ends, choice_head, choice_middle, choice_end, choice_last, loop_head, loop_turn, Flat, row, flat_layer, flat, high, low, base, rest, is_near, reach, below, slot_at, function_lines, functions_lines, start_lines, stub_lines, unwind_lines, program_lines}
+use Rattle.lab_flatten.specs.Flatten.{ends, choice_head, choice_middle, choice_end, choice_last, loop_head, loop_turn, Flat, row, flat_layer, flat, high, low, base, rest, is_near, reach, below, slot_at, where_some, front_lines, off, function_lines, functions_lines, start_lines, stub_lines, unwind_lines, program_lines}
 use Rattle.lab_flatten.proofs.Simulation.{flat_roll}
 use Rattle.lab_flatten.proofs.Standing.{span}
 
@@ -52,6 +53,24 @@ most_reach d ys = by (is_near d)
     by : (b : Bool) → most_of (cond b [] (line.Plain (instr.U Lui 9 (high d)) ∷ line.Plain (instr.R Add 9 9 2) ∷ []) ++ ys) ≤ 2 + most_of ys
     by true = omega arith
     by false = omega arith
+
+most_some : (n : ℕ) (xs : List Line) → most_of (where_some n xs) ≤ most_of xs
+most_some n xs = by (nat_eq n 0)
+  where
+    by : (b : Bool) → most_of (cond b [] xs) ≤ most_of xs
+    by true = omega arith
+    by false = omega arith
+
+most_off : (front size : ℕ) (ys : List Line) → most_of (off front size ys) ≤ 4 + most_of ys
+most_off front size ys =
+    let link = line.Plain (instr.L Ld 1 2 (pos 0)) ∷ [] in
+    let sum = line.Plain (instr.I Addi 2 (base size) (rest size)) ∷ [] in
+    let a = most_append (where_some front link) (where_some size (reach size ++ sum) ++ ys) in
+    let b = most_append (where_some size (reach size ++ sum)) ys in
+    let c = most_some front link in
+    let d = most_some size (reach size ++ sum) in
+    let e = most_reach size sum in
+    omega arith
 
 module _ (front size unwind : ℕ) where
   abbrev Fits : Stmt → Type 0
@@ -111,8 +130,8 @@ module _ (front size unwind : ℕ) where
       let g = s.1 (n + 2) b c false in
       let h = (k.body).1 (n + 2 + (flat front size unwind s.0).labels) b c last in
       omega arith
-  layer_fits (stmt.TailCall f) n b c last = let e = most_reach size (line.Plain (instr.I Addi 2 (base size) (rest size)) ∷ line.Jump f ∷ []) in omega arith
-  layer_fits stmt.Return n b c last = let e = most_reach size (line.Plain (instr.I Addi 2 (base size) (rest size)) ∷ line.JumpReg 1 ∷ []) in omega arith
+  layer_fits (stmt.TailCall f) n b c last = let e = most_off front size (line.Jump f ∷ []) in omega arith
+  layer_fits stmt.Return n b c last = let e = most_off front size (line.JumpReg 1 ∷ []) in omega arith
   layer_fits (stmt.Raise i) n b c last = omega arith
 
   -- a statement's lines have no more instructions than it needs
@@ -130,12 +149,23 @@ most_below n ys = by (is_near n)
     by true = omega arith
     by false = omega arith
 
+most_front : (front size stub : ℕ) (ys : List Line) → most_of (front_lines front size stub ++ ys) ≤ 8 + most_of ys
+most_front front size stub ys =
+    let test = line.Branch Ltu 9 4 stub ∷ line.Plain (instr.I Addi 2 9 (pos 0)) ∷ [] in
+    let link = line.Plain (instr.S Sd 2 1 (pos 0)) ∷ [] in
+    let a = most_append (front_lines front size stub) ys in
+    let b = most_append (where_some size (below size ++ test)) (where_some front link) in
+    let c = most_some size (below size ++ test) in
+    let d = most_some front link in
+    let e = most_below size test in
+    omega arith
+
 functions_fit : (stub unwind : ℕ) (gs : List StackFun) (f n : ℕ) → most_of (functions_lines stub unwind gs f n) ≤ sum_of (map function_code gs)
 functions_fit stub unwind [] f n = omega arith
 functions_fit stub unwind (g ∷ gs) f n =
     let body = (flat (front_words g) g.frame unwind g.body).lines n stub stub false in
     let a = most_append (function_lines f n stub unwind g) (functions_lines stub unwind gs (f + 1) (n + (flat (front_words g) g.frame unwind g.body).labels)) in
-    let e = most_below g.frame (line.Branch Ltu 9 4 stub ∷ line.Plain (instr.I Addi 2 9 (pos 0)) ∷ line.Plain (instr.S Sd 2 1 (pos 0)) ∷ body) in
+    let e = most_front (front_words g) g.frame stub body in
     let h = fits (front_words g) g.frame unwind g.body n stub stub false in
     let r = functions_fit stub unwind gs (f + 1) (n + (flat (front_words g) g.frame unwind g.body).labels) in
     omega arith

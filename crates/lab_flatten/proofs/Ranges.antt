@@ -1,6 +1,6 @@
 -- The fields of a program's lines are in range, and their labels below the count.
-use Rattle.std.proofs.Common.{◌≡◌, ℕ, ℤ, pos, negsuc, suc, ◌+◌, ◌-◌, ◌%◌, ◌^◌, ◌<◌, ◌≤◌, refl, sym, ap, ◌∙◌, subst, Bool, true, false, cond, List, [], ◌∷◌, ◌++◌, map, Some, None, length, arith}
-use Rattle.std.specs.Prelude.{◌≤ℤ◌, flat_map, slice_get}
+use Rattle.std.proofs.Common.{◌≡◌, ℕ, ℤ, pos, negsuc, suc, ◌+◌, ◌-◌, ◌%◌, ◌^◌, ◌<◌, ◌≤◌, refl, sym, ap, ◌∙◌, subst, Bool, true, false, cond, List, [], ◌∷◌, ◌++◌, append-nil, map, Some, None, length, arith}
+use Rattle.std.specs.Prelude.{◌≤ℤ◌, nat_eq, flat_map, slice_get}
 use Rattle.std.specs.List.{AllByRecursion}
 use Rattle.std.proofs.lemmas.List.Elements.{recursion_from_All}
 use Rattle.std.proofs.lemmas.Bool.Decides.{nat_tests}
@@ -24,7 +24,7 @@ use Rattle.stack_lang.specs.declared.syntax.Stmt.{Stmt, Stmt-F, map-Stmt}
 use Rattle.stack_lang.specs.declared.syntax.Stmt.TheOpen as stmt
 use Rattle.stack_lang.proofs.Equations.{stmt_induct, mentions_roll}
 use Rattle.pan_base.specs.declared.operators.Cmp.{Cmp}
-use Rattle.lab_flatten.specs.Flatten.{ends, choice_head, choice_middle, choice_end, choice_last, loop_head, loop_turn, labels_in, Flat, row, labels_of, flat_layer, flat, high, low, base, rest, is_near, reach, below, slot_at, function_lines, functions_lines, start_lines, stub_lines, unwind_lines, program_lines}
+use Rattle.lab_flatten.specs.Flatten.{ends, choice_head, choice_middle, choice_end, choice_last, loop_head, loop_turn, labels_in, Flat, row, labels_of, flat_layer, flat, high, low, base, rest, is_near, reach, where_some, below, front_lines, off, slot_at, function_lines, functions_lines, start_lines, stub_lines, unwind_lines, program_lines}
 use Rattle.lab_flatten.proofs.Facts.{frame_of, right_of}
 use Rattle.lab_flatten.proofs.Simulation.{every_parts, flat_roll}
 
@@ -91,9 +91,18 @@ module _ (labels : ℕ) where
   far_sum : (d : ℕ) (xs : List Line) → d ≤ 0x7F000 → AreLines xs → AreLines (reach d ++ line.Plain (instr.I Addi 2 (base d) (rest d)) ∷ xs)
   far_sum d xs few rest_lines = let h = rest_fits d in reach_lines d (line.Plain (instr.I Addi 2 (base d) (rest d)) ∷ xs) few ((omega arith, base_fits d, h.0, h.1), rest_lines)
 
-  -- the return address comes into x1
-  linked_lines : (xs : List Line) → AreLines xs → AreLines (line.Plain (instr.L Ld 1 2 (pos 0)) ∷ xs)
-  linked_lines xs h = let z = number_fits 0 (omega arith) in ((omega arith, omega arith, z.0, z.1), h)
+  some_lines : (n : ℕ) (xs ys : List Line) → AreLines xs → AreLines ys → AreLines (where_some n xs ++ ys)
+  some_lines n xs ys hx hy = by (nat_eq n 0)
+    where
+      by : (b : Bool) → AreLines (cond b [] xs ++ ys)
+      by true = hy
+      by false = lines_append xs ys hx hy
+
+  off_lines : (front size : ℕ) (ys : List Line) → size ≤ 0x7F000 → AreLines ys → AreLines (off front size ys)
+  off_lines front size ys few h =
+      let z = number_fits 0 (omega arith) in
+      let up = reach size ++ line.Plain (instr.I Addi 2 (base size) (rest size)) ∷ [] in
+      some_lines front (line.Plain (instr.L Ld 1 2 (pos 0)) ∷ []) (where_some size up ++ ys) ((omega arith, omega arith, z.0, z.1), tt) (some_lines size up ys (far_sum size [] few tt) h)
 
   below_lines : (d : ℕ) (xs : List Line) → d ≤ 0x7F000 → AreLines xs → AreLines (below d ++ xs)
   below_lines d xs few h = by (is_near d) refl
@@ -101,6 +110,14 @@ module _ (labels : ℕ) where
       by : (b : Bool) → is_near d ≡ b → AreLines (cond b (line.Plain (instr.I Addi 9 2 (negsuc (d - 1))) ∷ []) (line.Plain (instr.U Lui 9 (high d)) ∷ line.Plain (instr.I Addi 9 9 (low d)) ∷ line.Plain (instr.R Sub 9 2 9) ∷ []) ++ xs)
       by true near = let z = under_fits d near in ((omega arith, omega arith, z.0, z.1), h)
       by false near = let z = low_fits d in ((omega arith, omega arith), ((omega arith, omega arith, z.0, z.1), ((omega arith, omega arith, omega arith), h)))
+
+  entry_lines : (front size stub : ℕ) (ys : List Line) → size ≤ 0x7F000 → stub < labels → AreLines ys → AreLines (front_lines front size stub ++ ys)
+  entry_lines front size stub ys few less h =
+      let z = number_fits 0 (omega arith) in
+      let test = line.Branch Ltu 9 4 stub ∷ line.Plain (instr.I Addi 2 9 (pos 0)) ∷ [] in
+      let link = line.Plain (instr.S Sd 2 1 (pos 0)) ∷ [] in
+      let under = below_lines size test few ((omega arith, omega arith, less), (sum_line 2 9 0 (omega arith) (omega arith) (omega arith), tt)) in
+      lines_append (front_lines front size stub) ys (some_lines size (below size ++ test) (where_some front link) under (subst AreLines (append-nil (where_some front link)) (some_lines front link [] ((omega arith, omega arith, z.0, z.1), tt) tt))) h
 
   choice_lines : (f g : Bool) (op : Cmp) (a b n : ℕ) (xs ys : List Line) → a < 32 → b < 32 → n + 1 < labels → AreLines xs → AreLines ys → AreLines (choice_head f g op a b n ++ (ys ++ (choice_middle f g n ++ (xs ++ choice_end f g n))))
   choice_lines true true op a b n xs ys p q le hx hy = lines_append ys (xs ++ []) hy (lines_append xs [] hx tt)
@@ -182,8 +199,8 @@ module _ (labels : ℕ) where
         let returned = lines_append xs (line.Jump (n + 1) ∷ line.Label n ∷ line.Plain (instr.I Addi 9 0 (pos x.exception)) ∷ line.Branch Ne 1 9 unwind ∷ (ys ++ line.Label (n + 1) ∷ [])) (s.1 m.0 (n + 2) b c false (omega arith) b_below c_below) handles in
         ((omega arith, omega arith, eight.0, eight.1), ((omega arith, omega arith), ((omega arith, omega arith, sixteen.0, sixteen.1), (sum_line 8 2 8 (omega arith) (omega arith) (omega arith), (omega arith, ((omega arith, omega arith, eight.0, eight.1), returned))))))
     layer_lines (stmt.TailCall f) right n b c last le b_below c_below =
-        let less = right.0 in linked_lines (reach size ++ line.Plain (instr.I Addi 2 (base size) (rest size)) ∷ line.Jump f ∷ []) (far_sum size (line.Jump f ∷ []) few (omega arith, tt))
-    layer_lines stmt.Return right n b c last le b_below c_below = linked_lines (reach size ++ line.Plain (instr.I Addi 2 (base size) (rest size)) ∷ line.JumpReg 1 ∷ []) (far_sum size (line.JumpReg 1 ∷ []) few (omega arith, tt))
+        let less = right.0 in off_lines front size (line.Jump f ∷ []) few (omega arith, tt)
+    layer_lines stmt.Return right n b c last le b_below c_below = off_lines front size (line.JumpReg 1 ∷ []) few (omega arith, tt)
     layer_lines (stmt.Raise i) right n b c last le b_below c_below = let less = right.0 in (sum_line 1 0 i (omega arith) (omega arith) (omega arith), (unwind_below, tt))
 
     pub stmt_lines : (s : Stmt) → StmtLines s
@@ -206,13 +223,9 @@ module _ (p : Program StackFun) (fine : IsWellFormed p) (labels : ℕ) (enough :
       let last = n + (flat (front_words g) g.frame (count + 1) g.body).labels in
       let here : slice_get p.functions f ≡ Some g = ap (slice_get p.functions) (none f) ∙ theirs 0 g refl in
       let frame = frame_of p fine f g here in
-      let wide = frame.wide in let least = frame.some in
       let right = recursion_from_All (IsRight (scope_of p g)) (mentions g.body) (right_of p fine f g here) in
-      let zero_fits = number_fits 0 (omega arith) in
       let inside = stmt_lines labels (front_words g) g.frame (count + 1) count (length p.exceptions) (length p.names) frame.most fine.numbers.exceptions fine.numbers.names (omega arith) (omega arith) g.body right n count count false (omega arith) (omega arith) (omega arith) in
-      let entry : AreLines labels (line.Branch Ltu 9 4 count ∷ line.Plain (instr.I Addi 2 9 (pos 0)) ∷ line.Plain (instr.S Sd 2 1 (pos 0)) ∷ body)
-      = ((omega arith, omega arith, omega arith), (sum_line labels 2 9 0 (omega arith) (omega arith) (omega arith), ((omega arith, omega arith, zero_fits.0, zero_fits.1), inside))) in
-      let one : AreLines labels (function_lines f n count (count + 1) g) = (omega arith, below_lines labels g.frame (line.Branch Ltu 9 4 count ∷ line.Plain (instr.I Addi 2 9 (pos 0)) ∷ line.Plain (instr.S Sd 2 1 (pos 0)) ∷ body) frame.most entry) in
+      let one : AreLines labels (function_lines f n count (count + 1) g) = (omega arith, entry_lines labels (front_words g) g.frame count body frame.most (omega arith) inside) in
       lines_append labels (function_lines f n count (count + 1) g) (functions_lines count (count + 1) gs (f + 1) last) one
       (functions_are gs (f + 1) last (λ j h is. ap (slice_get p.functions) (next f j) ∙ theirs (suc j) h is) (omega arith) (omega arith))
     where

@@ -1,6 +1,5 @@
 -- The equations of flattening, one for each statement.
-use Rattle.std.specs.Prelude.{◌&&◌, ◌||◌, not, nat_eq}
-use Rattle.std.specs.List.{list_any}
+use Rattle.std.specs.Prelude.{◌&&◌, not, nat_eq}
 use Rattle.std.proofs.Common.{Bool, true, false, length-drop, ◌-◌, ◌≡◌, ℕ, ℤ, pos, zero, suc, ◌+◌, ◌^◌, ◌<◌, ◌≤◌, refl, sym, ap, ◌∙◌, subst, List, [], ◌∷◌, ◌++◌, append_assoc, length, map, drop, get_or, Option, Some, None, arith}
 use Rattle.std.proofs.lemmas.List.{append-nil, drop_more, drop_all}
 use Rattle.std.proofs.lemmas.Bool.Decides.{nat_tests}
@@ -21,8 +20,7 @@ use Rattle.stack_lang.specs.declared.syntax.Catch.{Catch}
 use Rattle.stack_lang.specs.Frames.{front_words}
 use Rattle.stack_lang.specs.declared.syntax.StackFun.{StackFun}
 use Rattle.lab_flatten.proofs.Machine.{IsFrame}
-use Rattle.stack_lang.specs.Frames.{handlers_layer, has_handlers}
-use Rattle.stack_lang.proofs.Equations.{stmt_induct, handlers_roll}
+use Rattle.stack_lang.proofs.Equations.{stmt_induct}
 use Rattle.lab_flatten.proofs.Simulation.{flat_roll}
 use Rattle.std.specs.Prelude.{slice_get}
 
@@ -209,77 +207,6 @@ module _ (front size unwind : ℕ) where
   pub none_is : (s : Stmt) → IsNone s
   none_is = stmt_induct IsNone (λ y last. ap (λ (f : Flat). f.none last) (flat_roll front size unwind (parts y)) ∙ layer_is y last ∙ sym (empty_told (parts y) (roll-Stmt (parts y)) last refl))
 
--- ---- handlers
-
-handlers_at : (y : Stmt-F Stmt) (x : Stmt) → roll-Stmt y ≡ x → has_handlers x ≡ handlers_layer (map-Stmt Stmt Bool has_handlers y)
-handlers_at y x is = ap has_handlers (sym is) ∙ handlers_roll y
-
-pub handlers_seq : (all : List Stmt) → has_handlers (s.Seq all) ≡ list_any (λ b. b) (map has_handlers all)
-handlers_seq all = handlers_at (stmt.Seq all) (s.Seq all) (s.rolls-Seq all)
-
-pub handlers_plain : (i : Instr) → has_handlers (s.Plain i) ≡ false
-handlers_plain i = handlers_at (stmt.Plain i) (s.Plain i) (s.rolls-Plain i)
-
-pub handlers_get : (r k : ℕ) → has_handlers (s.Get r k) ≡ false
-handlers_get r k = handlers_at (stmt.Get r k) (s.Get r k) (s.rolls-Get r k)
-
-pub handlers_put : (k r : ℕ) → has_handlers (s.Put k r) ≡ false
-handlers_put k r = handlers_at (stmt.Put k r) (s.Put k r) (s.rolls-Put k r)
-
-pub handlers_shared_load : (z : Size) (rd rs1 : ℕ) (imm : ℤ) → has_handlers (s.SharedLoad z rd rs1 imm) ≡ false
-handlers_shared_load z rd rs1 imm = handlers_at (stmt.SharedLoad z rd rs1 imm) (s.SharedLoad z rd rs1 imm) (s.rolls-SharedLoad z rd rs1 imm)
-
-pub handlers_shared_store : (z : Size) (rs1 rs2 : ℕ) (imm : ℤ) → has_handlers (s.SharedStore z rs1 rs2 imm) ≡ false
-handlers_shared_store z rs1 rs2 imm = handlers_at (stmt.SharedStore z rs1 rs2 imm) (s.SharedStore z rs1 rs2 imm) (s.rolls-SharedStore z rs1 rs2 imm)
-
-pub handlers_foreign : (i : ℕ) → has_handlers (s.Foreign i) ≡ false
-handlers_foreign i = handlers_at (stmt.Foreign i) (s.Foreign i) (s.rolls-Foreign i)
-
-pub handlers_if : (op : Cmp) (a b : ℕ) (x y : Stmt) → has_handlers (s.If op a b x y) ≡ (has_handlers x || has_handlers y)
-handlers_if op a b x y = handlers_at (stmt.If op a b x y) (s.If op a b x y) (s.rolls-If op a b x y)
-
-pub handlers_while : (before : List Stmt) (op : Cmp) (a b : ℕ) (y : Stmt) → has_handlers (s.While before op a b y) ≡ (list_any (λ b. b) (map has_handlers before) || has_handlers y)
-handlers_while before op a b y = handlers_at (stmt.While before op a b y) (s.While before op a b y) (s.rolls-While before op a b y)
-
-pub handlers_break : has_handlers s.Break ≡ false
-handlers_break = handlers_at stmt.Break s.Break s.rolls-Break
-
-pub handlers_continue : has_handlers s.Continue ≡ false
-handlers_continue = handlers_at stmt.Continue s.Continue s.rolls-Continue
-
-pub handlers_called : (f : ℕ) (x : Stmt) → has_handlers (s.Call f x None) ≡ has_handlers x
-handlers_called f x = handlers_at (stmt.Call f x None) (s.Call f x None) (s.rolls-Call f x None)
-
-pub handlers_guarded : (f : ℕ) (x : Stmt) (h : Catch Stmt) → has_handlers (s.Call f x (Some h)) ≡ true
-handlers_guarded f x h = handlers_at (stmt.Call f x (Some h)) (s.Call f x (Some h)) (s.rolls-Call f x (Some h))
-
-pub handlers_tail : (f : ℕ) → has_handlers (s.TailCall f) ≡ false
-handlers_tail f = handlers_at (stmt.TailCall f) (s.TailCall f) (s.rolls-TailCall f)
-
-pub handlers_return : has_handlers s.Return ≡ false
-handlers_return = handlers_at stmt.Return s.Return s.rolls-Return
-
-pub handlers_raise : (i : ℕ) → has_handlers (s.Raise i) ≡ false
-handlers_raise i = handlers_at (stmt.Raise i) (s.Raise i) (s.rolls-Raise i)
-
-pub ruleset handler_rules = (handlers_seq, handlers_plain, handlers_get, handlers_put, handlers_shared_load, handlers_shared_store, handlers_foreign, handlers_if, handlers_while, handlers_break, handlers_continue, handlers_called, handlers_guarded, handlers_tail, handlers_return, handlers_raise)
-
--- none of those before number i has a handler
-pub record AreBareTo (all : List Stmt) (i : ℕ) : Type 0 where
-  pub same : list_any (λ b. b) (map has_handlers (drop i all)) ≡ list_any (λ b. b) (map has_handlers all)
-
-handlers_here : (all : List Stmt) (i : ℕ) (x : Stmt) → i < length all → x ≡ get_or all i x → list_any (λ b. b) (map has_handlers (drop i all)) ≡ (has_handlers x || list_any (λ b. b) (map has_handlers (drop (i + 1) all)))
-handlers_here all i x below is = ap (λ ss. list_any (λ b. b) (map has_handlers ss)) (drop_more all i x below ∙ ap (λ y. y ∷ drop (i + 1) all) (sym is))
-
-pub handlers_more : (all : List Stmt) (i : ℕ) (x : Stmt) → i < length all → x ≡ get_or all i x → has_handlers x ≡ false → AreBareTo all i → AreBareTo all (i + 1)
-handlers_more all i x below is none so_far = record { same = sym (handlers_here all i x below is ∙ ap (λ b. b || list_any (λ b. b) (map has_handlers (drop (i + 1) all))) none) ∙ so_far.same }
-
-pub handlers_some : (all : List Stmt) (i : ℕ) (x : Stmt) → i < length all → x ≡ get_or all i x → has_handlers x ≡ true → AreBareTo all i → list_any (λ b. b) (map has_handlers all) ≡ true
-handlers_some all i x below is some so_far = sym so_far.same ∙ handlers_here all i x below is ∙ ap (λ b. b || list_any (λ b. b) (map has_handlers (drop (i + 1) all))) some
-
-pub handlers_end : (all : List Stmt) (i : ℕ) → length all ≤ i → AreBareTo all i → list_any (λ b. b) (map has_handlers all) ≡ false
-handlers_end all i past so_far = sym so_far.same ∙ ap (λ ss. list_any (λ b. b) (map has_handlers ss)) (drop_all i all past)
-
 -- ---- statements one after another
 
 ends_are : (front size unwind : ℕ) (ss : List Stmt) (last : Bool) → ends (map (flat front size unwind) ss) last ≡ ends (map empty ss) last
@@ -404,14 +331,14 @@ code_end stub unwind all i free number at old lines past so_far =
 
 -- ---- programs
 
--- the frames are neither empty nor too big
-pub frames_all : (fs gs : List StackFun) → gs ≡ fs → ((f : ℕ) (fn : StackFun) → slice_get fs f ≡ Some fn → IsFrame (front_words fn) fn.frame) → (k : ℕ) (d : StackFun) → k < length gs → (1 ≤ (get_or gs k d).frame) × ((get_or gs k d).frame < 2 ^ 40)
-frames_all fs gs e h = subst (λ gs. (k : ℕ) (d : StackFun) → k < length gs → (1 ≤ (get_or gs k d).frame) × ((get_or gs k d).frame < 2 ^ 40)) (sym e) (go fs h)
+-- the frames are not too big
+pub frames_all : (fs gs : List StackFun) → gs ≡ fs → ((f : ℕ) (fn : StackFun) → slice_get fs f ≡ Some fn → IsFrame (front_words fn) fn.frame) → (k : ℕ) (d : StackFun) → k < length gs → (get_or gs k d).frame < 2 ^ 40
+frames_all fs gs e h = subst (λ gs. (k : ℕ) (d : StackFun) → k < length gs → (get_or gs k d).frame < 2 ^ 40) (sym e) (go fs h)
   where
-    small : (fn : StackFun) → IsFrame (front_words fn) fn.frame → (1 ≤ fn.frame) × (fn.frame < 2 ^ 40)
-    small fn f = let a = f.wide in let c = f.some in let b = f.most in (omega arith, omega arith)
+    small : (fn : StackFun) → IsFrame (front_words fn) fn.frame → fn.frame < 2 ^ 40
+    small fn f = let b = f.most in omega arith
 
-    go : (fs : List StackFun) → ((f : ℕ) (fn : StackFun) → slice_get fs f ≡ Some fn → IsFrame (front_words fn) fn.frame) → (k : ℕ) (d : StackFun) → k < length fs → (1 ≤ (get_or fs k d).frame) × ((get_or fs k d).frame < 2 ^ 40)
+    go : (fs : List StackFun) → ((f : ℕ) (fn : StackFun) → slice_get fs f ≡ Some fn → IsFrame (front_words fn) fn.frame) → (k : ℕ) (d : StackFun) → k < length fs → (get_or fs k d).frame < 2 ^ 40
     go [] h k d less = absurd (omega arith)
     go (x ∷ xs) h zero d less = small x (h 0 x refl)
     go (x ∷ xs) h (suc k) d less = go xs (λ f fn is. h (suc f) fn is) k d (let long : length (x ∷ xs) ≡ suc (length xs) = refl in omega arith)

@@ -1,7 +1,7 @@
 -- The lines of a statement do what it does, at every layout.
 use Rattle.std.proofs.Common.{◌≡◌, ℕ, pos, zero, suc, ◌+◌, ◌*◌, ◌^◌, ◌<◌, ◌≤◌, refl, sym, ap, ◌∙◌, subst, Bool, true, false, cond, List, [], ◌∷◌, ◌++◌, map, set, eqb, Some, None, arith}
-use Rattle.std.specs.Prelude.{◌&&◌, ◌||◌, not, flat_map}
-use Rattle.std.specs.List.{AllByRecursion, list_any}
+use Rattle.std.specs.Prelude.{◌&&◌, not, flat_map}
+use Rattle.std.specs.List.{AllByRecursion}
 use Rattle.pan_base.specs.Words.{compare, truth}
 use Rattle.pan_base.specs.Events.{Spent}
 use Rattle.pan_base.specs.declared.operators.Cmp.{Cmp}
@@ -9,6 +9,7 @@ use Rattle.pan_base.specs.declared.operators.Cmp.TheVariants.{Eq, Ne, Lt, Ge, Lt
 use Rattle.pan_base.specs.declared.operators.IOp.TheVariants.{Addi}
 use Rattle.pan_control.specs.World.{tolled}
 use Rattle.pan_control.specs.Control.{Normal, Broken, Continued, Returned, Raised, Over, and_then, in_turn, if_not_zero, spend_of, spend, after_body, turn, turns}
+use Rattle.pan_stage.specs.Sums.{most}
 use Rattle.riscv_isa.specs.declared.instr.Instr.{Instr}
 use Rattle.riscv_isa.specs.declared.instr.Instr.TheVariants as instr
 use Rattle.riscv_isa.specs.Running.{run as machine_run}
@@ -24,8 +25,9 @@ use Rattle.stack_lang.specs.Frame.{Frame}
 use Rattle.stack_lang.specs.Meaning.{World, Outcome, Callee, Does, ran, asked, aimed, more, run_layer, run}
 use Rattle.stack_lang.specs.Text.{Mention, Read, Exception, mentions_layer, mentions}
 use Rattle.stack_lang.specs.WellFormed.{IsRight}
-use Rattle.stack_lang.specs.Frames.{handlers_layer, has_handlers}
-use Rattle.stack_lang.proofs.Equations.{stmt_induct, run_roll, mentions_roll, handlers_roll}
+use Rattle.stack_lang.specs.Frames.{front_layer, front as front_of}
+use Rattle.stack_lang.proofs.Equations.{stmt_induct, run_roll, mentions_roll, front_roll}
+use Rattle.stack_lang.proofs.WordsBefore.{front_small}
 use Rattle.lab_flatten.specs.Flatten.{Flat, ends, none_of, row, inverse, choice_head, choice_middle, choice_end, choice_last, loop_head, loop_turn, flat_layer, flat, unwind_lines}
 use Rattle.lab_flatten.proofs.Hiding.{apart, mask_set, act_agrees, ecall_agrees, reg_hide, follows_reg}
 use Rattle.lab_flatten.proofs.Machine.{IsFrame, Ready, kept_self, kept_on, follows_kept, ready_kept}
@@ -90,16 +92,6 @@ module _ (front size unwind : ℕ) where
 
   pub no_lines : (s : Stmt) → HasNoLines (flat front size unwind s)
   no_lines = stmt_induct (λ s. HasNoLines (flat front size unwind s)) (λ y. subst HasNoLines (sym (flat_roll front size unwind (parts_of y))) (layer_none y))
-
--- ---- handlers
-
-left_or : (a b : Bool) → a ≡ true → (a || b) ≡ true
-left_or true b h = refl
-left_or false b h = absurd (cc h)
-
-right_or : (a b : Bool) → b ≡ true → (a || b) ≡ true
-right_or true b h = refl
-right_or false b h = h
 
 -- ---- choices
 
@@ -171,7 +163,7 @@ module _ (lines : List Line) (layout : List (ℕ × ℕ)) (unwind_at : ℕ) (fro
   To o t w on out again = Lands lines layout unwind_at front size o t w on out again
 
   -- a branch, with its part of the toll, and maybe a unit of fuel
-  branch_comes : (t : State) (v : Frame) (w w' : World) (op : Cmp) (a b l n at hit : ℕ) (c : Bool) → Ready size t → Sees front size v t → t.pc ≡ at → Here lines layout (line.Branch op a b l) n at → At lines layout l hit
+  branch_comes : (t : State) (v : Frame) (w w' : World) (op : Cmp) (a b l n at hit : ℕ) (c : Bool) → Ready front size t → Sees front size v t → t.pc ≡ at → Here lines layout (line.Branch op a b l) n at → At lines layout l hit
       → compare op (reg t a) (reg t b) ≡ c → w'.replies ≡ w.replies → w'.trace ≡ w.trace → w.fuel ≤ 1 + w'.fuel → cond c 3 1 + w.toll ≤ w'.toll → Comes lines layout front size t w v w' (cond c hit (at + 4 * n))
   branch_comes t v w w' op a b l n at hit c r s e branch there is replies trace fuel toll =
       moved_comes lines layout front size t (cond c hit (at + 4 * n)) (cond c 3 1) v w w'
@@ -179,7 +171,7 @@ module _ (lines : List Line) (layout : List (ℕ × ℕ)) (unwind_at : ℕ) (fro
 
   -- ---- a choice
 
-  choice_test : (op : Cmp) (a b l nb : ℕ) (ms mt : Does) (at hit to out again : ℕ) (c : Bool) (t : State) (v : Frame) (w : World) → t.pc ≡ at → Ready size t → Sees front size v t
+  choice_test : (op : Cmp) (a b l nb : ℕ) (ms mt : Does) (at hit to out again : ℕ) (c : Bool) (t : State) (v : Frame) (w : World) → t.pc ≡ at → Ready front size t → Sees front size v t
       → Here lines layout (line.Branch op a b l) nb at → At lines layout l hit → compare op (reg t a) (reg t b) ≡ c
       → From ms hit to out again → From mt (at + 4 * nb) to out again → To (cond c (ms v (tolled 3 w)) (mt v (tolled 3 w))) t w to out again
   choice_test op a b l nb ms mt at hit to out again true t v w e r s branch there is land_s land_t =
@@ -192,7 +184,7 @@ module _ (lines : List Line) (layout : List (ℕ × ℕ)) (unwind_at : ℕ) (fro
   idle t w w' replies trace fuel toll = steps_goes lines layout t w t w' 0 (goes_none lines layout t) replies trace (omega arith) (omega arith)
 
   more_lands : (k at to out again : ℕ) → at ≡ to → From (more k) at to out again
-  more_lands k at to out again same t v e r s w = record { state = t; sees = s; pc = e ∙ same; kept = kept_self size t; by = idle t w (tolled k w) refl refl refl (omega arith) }
+  more_lands k at to out again same t v e r s w = record { state = t; sees = s; pc = e ∙ same; kept = kept_self front size t; by = idle t w (tolled k w) refl refl refl (omega arith) }
 
   -- what is behind an empty side
   module _ (op : Cmp) (a b : ℕ) (ms mt : Does) (out again : ℕ) (p : IsVisible a) (q : IsVisible b) where
@@ -214,9 +206,9 @@ module _ (lines : List Line) (layout : List (ℕ × ℕ)) (unwind_at : ℕ) (fro
     neither_lands at to same land_s land_t t v e r s w = by (compare op (reg v.seen a) (reg v.seen b))
       where
         by : (c : Bool) → To (cond c (ms v (tolled 3 w)) (second v (tolled 3 w))) t w to out again
-        by true = lands_by lines layout unwind_at front size (ms v (tolled 3 w)) t w t (tolled 3 w) to out again (kept_self size t) (idle t w (tolled 3 w) refl refl refl (omega arith)) (land_s t v e r s (tolled 3 w))
+        by true = lands_by lines layout unwind_at front size (ms v (tolled 3 w)) t w t (tolled 3 w) to out again (kept_self front size t) (idle t w (tolled 3 w) refl refl refl (omega arith)) (land_s t v e r s (tolled 3 w))
         by false =
-            lands_by lines layout unwind_at front size (second v (tolled 3 w)) t w t (tolled 3 w) to out again (kept_self size t) (idle t w (tolled 3 w) refl refl refl (omega arith))
+            lands_by lines layout unwind_at front size (second v (tolled 3 w)) t w t (tolled 3 w) to out again (kept_self front size t) (idle t w (tolled 3 w) refl refl refl (omega arith))
             (then_lands lines layout unwind_at front size (mt v (tolled 3 w)) (more 2) t (tolled 3 w) at to out again r (land_t t v e r s (tolled 3 w)) (more_lands 2 at to out again same))
 
     -- the branch goes over the second side
@@ -281,7 +273,7 @@ module _ (lines : List Line) (layout : List (ℕ × ℕ)) (unwind_at : ℕ) (fro
     abbrev end : ℕ
     end = mid + 4 * nb
 
-    body_lands : (o : Outcome Frame Frame) (next : Does) (t : State) (w : World) → Ready size t → From next head end out again → To o t w head end head → To (after_body o next) t w end out again
+    body_lands : (o : Outcome Frame Frame) (next : Does) (t : State) (w : World) → Ready front size t → From next head end out again → To o t w head end head → To (after_body o next) t w end out again
     body_lands (Normal s1 w1) next t w r go h = after_comes lines layout unwind_at front size next t w s1 w1 head end out again r h go
     body_lands (Broken s1 w1) next t w r go h = h
     body_lands (Continued s1 w1) next t w r go h = after_comes lines layout unwind_at front size next t w s1 w1 head end out again r h go
@@ -293,7 +285,7 @@ module _ (lines : List Line) (layout : List (ℕ × ℕ)) (unwind_at : ℕ) (fro
     abbrev rest : Does → Does
     rest next s w = if_not_zero (truth op (reg s.seen a) (reg s.seen b)) (spend w (λ w. after_body (mt s w) next)) (Normal s w)
 
-    by_fuel : (next : Does) → From next head end out again → (t : State) (v : Frame) → t.pc ≡ mid → Ready size t → Sees front size v t → (w : World) → compare op (reg t a) (reg t b) ≡ true → (f : ℕ) → w.fuel ≡ f
+    by_fuel : (next : Does) → From next head end out again → (t : State) (v : Frame) → t.pc ≡ mid → Ready front size t → Sees front size v t → (w : World) → compare op (reg t a) (reg t b) ≡ true → (f : ℕ) → w.fuel ≡ f
         → To (spend_of f (tolled 3 w) (λ w. after_body (mt v w) next)) t w end out again
     unfolding machine_run
     by_fuel next go t v e r s w is zero fuel = λ ok. record { steps = 0; enough = omega arith; within = omega arith; is = refl }
@@ -303,7 +295,7 @@ module _ (lines : List Line) (layout : List (ℕ × ℕ)) (unwind_at : ℕ) (fro
         (branch_comes t v w w3 op a b in_label nb mid inside true r s e branch at_in is refl refl (omega arith) (omega arith))
         (λ u v e r s w. body_lands (mt v w) next u w r go (land_t u v e r s w))
 
-    by_test : (next : Does) → From next head end out again → (t : State) (v : Frame) → t.pc ≡ mid → Ready size t → Sees front size v t → (w : World) → (c : Bool) → compare op (reg t a) (reg t b) ≡ c
+    by_test : (next : Does) → From next head end out again → (t : State) (v : Frame) → t.pc ≡ mid → Ready front size t → Sees front size v t → (w : World) → (c : Bool) → compare op (reg t a) (reg t b) ≡ c
         → To (if_not_zero (cond c 1 0) (spend (tolled 3 w) (λ w. after_body (mt v w) next)) (Normal v (tolled 3 w))) t w end out again
     by_test next go t v e r s w true is = by_fuel next go t v e r s w is w.fuel refl
     by_test next go t v e r s w false is = branch_comes t v w (tolled 3 w) op a b in_label nb mid inside false r s e branch at_in is refl refl (omega arith) (omega arith)
@@ -358,9 +350,9 @@ module _ (lines : List Line) (layout : List (ℕ × ℕ)) (unwind_at : ℕ) (fro
         let u2 = next (with_reg u1 17 1) in
         let f1 = follows_reg t 14 i (writable 14 refl refl refl refl refl) in
         let f2 = follows_reg u1 17 1 (writable 17 refl refl refl refl refl) in
-        let kept = kept_on size t u1 u2 (follows_kept size t u1 f1) (follows_kept size u1 u2 f2) in
+        let kept = kept_on front size t u1 u2 (follows_kept front size t u1 f1) (follows_kept front size u1 u2 f2) in
         let sees = follows_sees front size (record v { seen = hide u1 }) u1 u2 f2 (follows_sees front size v t u1 f1 s) in
-        let stack = ((ready_kept size t u2 r kept).map).stack in
+        let stack = ((ready_kept front size t u2 r kept).map).stack in
         let one = ((g2.1).1).0 in let end = (g2.1).2 in
         let on : u2.pc + 4 ≡ to = omega arith in
         let is : hide u2 ≡ aimed i v.seen = hide_aimed t i ∙ ap (aimed i) s.seen in
@@ -387,7 +379,7 @@ module _ (lines : List Line) (layout : List (ℕ × ℕ)) (unwind_at : ℕ) (fro
 
     -- its lines do what it does, wherever they stand
     abbrev pub IsFlattened : Stmt → Type 0
-    IsFlattened s = AreRight (mentions s) → (has_handlers s ≡ true → front ≡ 3) → (n b c at to out again : ℕ) (last : Bool) → Stands lines layout at ((flat front size unwind s).lines n b c last) to → At lines layout b out → At lines layout c again → (last ≡ true → to ≡ again) → From (run size d g s) at to out again
+    IsFlattened s = AreRight (mentions s) → front_of s ≤ front → (n b c at to out again : ℕ) (last : Bool) → Stands lines layout at ((flat front size unwind s).lines n b c last) to → At lines layout b out → At lines layout c again → (last ≡ true → to ≡ again) → From (run size d g s) at to out again
 
     -- the same at a layer
     abbrev LayerFlattened : Does → Flat → Type 0
@@ -400,16 +392,16 @@ module _ (lines : List Line) (layout : List (ℕ × ℕ)) (unwind_at : ℕ) (fro
     abbrev all_of : List ((s : Stmt) × IsFlattened s) → List Stmt
     all_of ss = map (λ p. p.0) ss
 
-    row_lands : (ss : List ((s : Stmt) × IsFlattened s)) → AreRight (flat_map (λ s. s) (map mentions (all_of ss))) → (list_any (λ b. b) (map has_handlers (all_of ss)) ≡ true → front ≡ 3) → (n b c at to out again : ℕ) (last : Bool)
+    row_lands : (ss : List ((s : Stmt) × IsFlattened s)) → AreRight (flat_map (λ s. s) (map mentions (all_of ss))) → most (map front_of (all_of ss)) ≤ front → (n b c at to out again : ℕ) (last : Bool)
         → Stands lines layout at (row (map (flat front size unwind) (all_of ss)) n b c last) to → At lines layout b out → At lines layout c again → (last ≡ true → to ≡ again) → From (in_turn (map (run size d g) (all_of ss))) at to out again
-    row_lands [] right three n b c at to out again last h at_b at_c behind t v e r s w = record { state = t; sees = s; pc = e ∙ h; kept = kept_self size t; by = λ k. (k, omega arith, omega arith, refl) }
-    row_lands (x ∷ xs) right three n b c at to out again last h at_b at_c behind t v e r s w =
+    row_lands [] right wide n b c at to out again last h at_b at_c behind t v e r s w = record { state = t; sees = s; pc = e ∙ h; kept = kept_self front size t; by = λ k. (k, omega arith, omega arith, refl) }
+    row_lands (x ∷ xs) right wide n b c at to out again last h at_b at_c behind t v e r s w =
         let m = split (mentions x.0) (flat_map (λ s. s) (map mentions (all_of xs))) right in
         let after = ends (map (flat front size unwind) (all_of xs)) last in
         let y = stands_split lines layout at ((flat front size unwind x.0).lines n b c after) (row (map (flat front size unwind) (all_of xs)) (n + (flat front size unwind x.0).labels) b c last) to h in
         then_lands lines layout unwind_at front size (run size d g x.0 v w) (in_turn (map (run size d g) (all_of xs))) t w y.0 to out again r
-        (x.1 m.0 (λ h. three (left_or (has_handlers x.0) (list_any (λ b. b) (map has_handlers (all_of xs))) h)) n b c at y.0 out again after y.1 at_b at_c (at_end xs (n + (flat front size unwind x.0).labels) y.0 y.2) t v e r s w)
-        (row_lands xs m.1 (λ h. three (right_or (has_handlers x.0) (list_any (λ b. b) (map has_handlers (all_of xs))) h)) (n + (flat front size unwind x.0).labels) b c y.0 to out again last y.2 at_b at_c behind)
+        (x.1 m.0 (omega (arith, wide)) n b c at y.0 out again after y.1 at_b at_c (at_end xs (n + (flat front size unwind x.0).labels) y.0 y.2) t v e r s w)
+        (row_lands xs m.1 (omega (arith, wide)) (n + (flat front size unwind x.0).labels) b c y.0 to out again last y.2 at_b at_c behind)
       where
         -- behind the last one
         at_end : (xs : List ((s : Stmt) × IsFlattened s)) (k mid : ℕ) → Stands lines layout mid (row (map (flat front size unwind) (all_of xs)) k b c last) to → ends (map (flat front size unwind) (all_of xs)) last ≡ true → mid ≡ again
@@ -435,7 +427,7 @@ module _ (lines : List Line) (layout : List (ℕ × ℕ)) (unwind_at : ℕ) (fro
       while_lands true no_ys h t v e r s w =
           let here = subst (λ ys. Stands lines layout at (ys ++ line.Label n ∷ (xs ++ line.Branch op a b n ∷ line.Label (n + 1) ∷ [])) to) (no_ys refl) h in
           let at_head : At lines layout n at = (here.1).1 in
-          lands_by lines layout unwind_at front size (looping v (tolled 2 w)) t w t (tolled 2 w) to out again (kept_self size t) (idle t w (tolled 2 w) refl refl refl (omega arith))
+          lands_by lines layout unwind_at front size (looping v (tolled 2 w)) t w t (tolled 2 w) to out again (kept_self front size t) (idle t w (tolled 2 w) refl refl refl (omega arith))
           (test_lands at at n at_head at_head (past_label lines layout n at (xs ++ line.Branch op a b n ∷ line.Label (n + 1) ∷ []) to here)
           (λ end at_end. land_t at at end (subst (λ ys. Stands lines layout at ys at) (sym (no_ys refl)) refl) at_end at_head) t v e r s (tolled 2 w))
       while_lands false no_ys (n0, jump, l) t v e r s w =
@@ -447,16 +439,16 @@ module _ (lines : List Line) (layout : List (ℕ × ℕ)) (unwind_at : ℕ) (fro
           after_comes lines layout unwind_at front size looping t w v (tolled 2 w) head to out again r (jump_lands lines layout unwind_at front size n n0 at head t v w e r s jump at_head)
           (test_lands head inside (n + 2) at_head (l.1).1 (past_label lines layout n head (xs ++ line.Branch op a b (n + 2) ∷ line.Label (n + 1) ∷ []) to x.2) (λ end at_end. land_t inside head end x.1 at_end at_head))
 
-    layer_lands : (y : Stmt-F ((s : Stmt) × IsFlattened s)) → AreRight (mentions_layer (map-Stmt Stmt (List Mention) mentions (parts y))) → (handlers_layer (map-Stmt Stmt Bool has_handlers (parts y)) ≡ true → front ≡ 3)
+    layer_lands : (y : Stmt-F ((s : Stmt) × IsFlattened s)) → AreRight (mentions_layer (map-Stmt Stmt (List Mention) mentions (parts y))) → front_layer (map-Stmt Stmt ℕ front_of (parts y)) ≤ front
         → LayerFlattened (run_layer size d g (map-Stmt Stmt Does (run size d g) (parts y))) (flat_layer front size unwind (map-Stmt Stmt Flat (flat front size unwind) (parts y)))
-    layer_lands (stmt.Seq all) right three n b c at to out again last h at_b at_c behind = row_lands all right three n b c at to out again last h at_b at_c behind
-    layer_lands (stmt.Plain i) right three n b c at to out again last h at_b at_c behind = plain_lands at to out again i (right.0).1 h
-    layer_lands (stmt.Get r k) right three n b c at to out again last h at_b at_c behind = get_lands lines layout unwind_at front size frame r k at to out again (right.0).1 (right.1).0 h
-    layer_lands (stmt.Put k r) right three n b c at to out again last h at_b at_c behind = put_lands lines layout unwind_at front size frame k r at to out again (right.0).1 (right.1).0 h
-    layer_lands (stmt.SharedLoad z rd rs1 imm) right three n b c at to out again last h at_b at_c behind = shared_lands at to out again (load_of z rd rs1 imm) (right.0).1 h
-    layer_lands (stmt.SharedStore z rs1 rs2 imm) right three n b c at to out again last h at_b at_c behind = shared_lands at to out again (store_of z rs1 rs2 imm) (right.0).1 h
-    layer_lands (stmt.Foreign i) right three n b c at to out again last h at_b at_c behind = let less = right.0 in foreign_lands at to out again i (omega arith) h
-    layer_lands (stmt.If op x y s t) right three n b c at to out again last h at_b at_c behind =
+    layer_lands (stmt.Seq all) right wide n b c at to out again last h at_b at_c behind = row_lands all right wide n b c at to out again last h at_b at_c behind
+    layer_lands (stmt.Plain i) right wide n b c at to out again last h at_b at_c behind = plain_lands at to out again i (right.0).1 h
+    layer_lands (stmt.Get r k) right wide n b c at to out again last h at_b at_c behind = get_lands lines layout unwind_at front size frame r k at to out again (right.0).1 (right.1).0 h
+    layer_lands (stmt.Put k r) right wide n b c at to out again last h at_b at_c behind = put_lands lines layout unwind_at front size frame k r at to out again (right.0).1 (right.1).0 h
+    layer_lands (stmt.SharedLoad z rd rs1 imm) right wide n b c at to out again last h at_b at_c behind = shared_lands at to out again (load_of z rd rs1 imm) (right.0).1 h
+    layer_lands (stmt.SharedStore z rs1 rs2 imm) right wide n b c at to out again last h at_b at_c behind = shared_lands at to out again (store_of z rs1 rs2 imm) (right.0).1 h
+    layer_lands (stmt.Foreign i) right wide n b c at to out again last h at_b at_c behind = let less = right.0 in foreign_lands at to out again i (omega arith) h
+    layer_lands (stmt.If op x y s t) right wide n b c at to out again last h at_b at_c behind =
         let m = split (mentions s.0) (mentions t.0) (right.1).1 in
         let no_first = (flat front size unwind s.0).none last in
         let no_second = (flat front size unwind t.0).none last in
@@ -464,37 +456,37 @@ module _ (lines : List Line) (layout : List (ℕ × ℕ)) (unwind_at : ℕ) (fro
         let ys = (flat front size unwind t.0).lines (n + 2) b c (choice_last no_first no_second last) in
         choice_lands op x y (run size d g s.0) (run size d g t.0) out again (right.0).1 ((right.1).0).1 no_first no_second n xs ys at to
         (λ none. no_lines front size unwind s.0 (n + 2 + (flat front size unwind t.0).labels) b c last none) (λ none. ap (λ last. (flat front size unwind t.0).lines (n + 2) b c last) (told no_first no_second last none) ∙ no_lines front size unwind t.0 (n + 2) b c last none) h
-        (λ at h. s.1 m.0 (λ h. three (left_or (has_handlers s.0) (has_handlers t.0) h)) (n + 2 + (flat front size unwind t.0).labels) b c at to out again last h at_b at_c behind)
-        (λ at mid h at_to. t.1 m.1 (λ h. three (right_or (has_handlers s.0) (has_handlers t.0) h)) (n + 2) b c at mid out again (choice_last no_first no_second last) h at_b at_c (λ is. let k = last_parts no_first no_second last is in at_to k.0 ∙ behind k.1))
-    layer_lands (stmt.While before op x y t) right three n b c at to out again last h at_b at_c behind =
+        (λ at h. s.1 m.0 (omega (arith, wide)) (n + 2 + (flat front size unwind t.0).labels) b c at to out again last h at_b at_c behind)
+        (λ at mid h at_to. t.1 m.1 (omega (arith, wide)) (n + 2) b c at mid out again (choice_last no_first no_second last) h at_b at_c (λ is. let k = last_parts no_first no_second last is in at_to k.0 ∙ behind k.1))
+    layer_lands (stmt.While before op x y t) right wide n b c at to out again last h at_b at_c behind =
         let m = split (flat_map (λ s. s) (map mentions (all_of before))) (Read x ∷ Read y ∷ mentions t.0) right in
         while_lands op x y n (row (map (flat front size unwind) (all_of before)) (n + 3 + (flat front size unwind t.0).labels) b c false) ((flat front size unwind t.0).lines (n + 3) (n + 1) n true) (in_turn (map (run size d g) (all_of before))) (run size d g t.0) at to out again
         ((m.1).0).1 (((m.1).1).0).1
-        (λ at to h. row_lands before m.0 (λ h. three (left_or (list_any (λ b. b) (map has_handlers (all_of before))) (has_handlers t.0) h)) (n + 3 + (flat front size unwind t.0).labels) b c at to out again false h at_b at_c (λ is. absurd (cc is)))
-        (λ at to end h at_end at_head. t.1 ((m.1).1).1 (λ h. three (right_or (list_any (λ b. b) (map has_handlers (all_of before))) (has_handlers t.0) h)) (n + 3) (n + 1) n at to end to true h at_end at_head (λ is. refl))
+        (λ at to h. row_lands before m.0 (omega (arith, wide)) (n + 3 + (flat front size unwind t.0).labels) b c at to out again false h at_b at_c (λ is. absurd (cc is)))
+        (λ at to end h at_end at_head. t.1 ((m.1).1).1 (omega (arith, wide)) (n + 3) (n + 1) n at to end to true h at_end at_head (λ is. refl))
         ((flat front size unwind t.0).none true) (λ none. no_lines front size unwind t.0 (n + 3) (n + 1) n true none) h
-    layer_lands stmt.Break right three n b c at to out again last h at_b at_c behind = λ t v e r s w. jump_lands lines layout unwind_at front size b h.0 at out t v w e r s h.1 at_b
-    layer_lands stmt.Continue right three n b c at to out again true h at_b at_c behind = λ t v e r s w. record { state = t; sees = s; pc = e ∙ h ∙ behind refl; kept = kept_self size t; by = idle t w (tolled 2 w) refl refl refl (omega arith) }
-    layer_lands stmt.Continue right three n b c at to out again false h at_b at_c behind = λ t v e r s w. jump_lands lines layout unwind_at front size c h.0 at again t v w e r s h.1 at_c
-    layer_lands (stmt.Call f s None) right three n b c at to out again last h at_b at_c behind =
+    layer_lands stmt.Break right wide n b c at to out again last h at_b at_c behind = λ t v e r s w. jump_lands lines layout unwind_at front size b h.0 at out t v w e r s h.1 at_b
+    layer_lands stmt.Continue right wide n b c at to out again true h at_b at_c behind = λ t v e r s w. record { state = t; sees = s; pc = e ∙ h ∙ behind refl; kept = kept_self front size t; by = idle t w (tolled 2 w) refl refl refl (omega arith) }
+    layer_lands stmt.Continue right wide n b c at to out again false h at_b at_c behind = λ t v e r s w. jump_lands lines layout unwind_at front size c h.0 at again t v w e r s h.1 at_c
+    layer_lands (stmt.Call f s None) right wide n b c at to out again last h at_b at_c behind =
         let y = stands f right.0 in
         let m = split (mentions s.0) [] right.1 in
-        plain_call lines layout unwind_at front size d g enters f h.0 y.0 at to out again (run size d g s.0) h.1 y.1 (s.1 m.0 three n b c (at + 4 * h.0) to out again last h.2 at_b at_c behind)
-    layer_lands (stmt.Call f s (Some x)) right three n b c at to out again last h at_b at_c behind =
+        plain_call lines layout unwind_at front size d (omega (arith, wide)) g enters f h.0 y.0 at to out again (run size d g s.0) h.1 y.1 (s.1 m.0 (omega (arith, wide)) n b c (at + 4 * h.0) to out again last h.2 at_b at_c behind)
+    layer_lands (stmt.Call f s (Some x)) right wide n b c at to out again last h at_b at_c behind =
         let y = stands f right.0 in
         let m = split (mentions s.0) (Exception x.exception ∷ mentions (x.body).0) right.1 in
         let less = (m.1).0 in
-        guarded_call lines layout unwind_at unwind uncaught unwind_end unwind_stands front size frame (three refl) d g enters f n y.0 at to out again ((flat front size unwind s.0).lines (n + 2) b c false) ((flat front size unwind (x.body).0).lines (n + 2 + (flat front size unwind s.0).labels) b c last)
+        guarded_call lines layout unwind_at unwind uncaught unwind_end unwind_stands front size frame wide d g enters f n y.0 at to out again ((flat front size unwind s.0).lines (n + 2) b c false) ((flat front size unwind (x.body).0).lines (n + 2 + (flat front size unwind s.0).labels) b c last)
         (run size d g s.0) (record { exception = x.exception; body = run size d g (x.body).0 }) (omega arith) h y.1
-        (λ at mid h. s.1 m.0 (λ h. three refl) (n + 2) b c at mid out again false h at_b at_c (λ is. absurd (cc is)))
-        (λ at h. (x.body).1 (m.1).1 (λ h. three refl) (n + 2 + (flat front size unwind s.0).labels) b c at to out again last h at_b at_c behind)
-    layer_lands (stmt.TailCall f) right three n b c at to out again last h at_b at_c behind = let y = stands f right.0 in tail_lands lines layout unwind_at front size frame g enters f y.0 at to out again h y.1
-    layer_lands stmt.Return right three n b c at to out again last h at_b at_c behind = return_lands lines layout unwind_at front size frame at to out again h
-    layer_lands (stmt.Raise i) right three n b c at to out again last h at_b at_c behind = let less = right.0 in raise_lands lines layout unwind_at front size i unwind at to out again (omega arith) at_unwind h
+        (λ at mid h. s.1 m.0 (let few = front_small s.0 in omega (arith, wide, few)) (n + 2) b c at mid out again false h at_b at_c (λ is. absurd (cc is)))
+        (λ at h. (x.body).1 (m.1).1 (let few = front_small (x.body).0 in omega (arith, wide, few)) (n + 2 + (flat front size unwind s.0).labels) b c at to out again last h at_b at_c behind)
+    layer_lands (stmt.TailCall f) right wide n b c at to out again last h at_b at_c behind = let y = stands f right.0 in tail_lands lines layout unwind_at front size frame g enters f y.0 at to out again h y.1
+    layer_lands stmt.Return right wide n b c at to out again last h at_b at_c behind = return_lands lines layout unwind_at front size frame at to out again h
+    layer_lands (stmt.Raise i) right wide n b c at to out again last h at_b at_c behind = let less = right.0 in raise_lands lines layout unwind_at front size i unwind at to out again (omega arith) at_unwind h
 
     pub flattened : (s : Stmt) → IsFlattened s
     flattened =
-        stmt_induct IsFlattened (λ y right three.
-        let here = layer_lands y (subst AreRight (mentions_roll (parts y)) right) (λ h. three (handlers_roll (parts y) ∙ h)) in
+        stmt_induct IsFlattened (λ y right wide.
+        let here = layer_lands y (subst AreRight (mentions_roll (parts y)) right) (subst (λ n. n ≤ front) (front_roll (parts y)) wide) in
         let same_code = subst (λ f. LayerFlattened (run_layer size d g (map-Stmt Stmt Does (run size d g) (parts y))) f) (sym (flat_roll front size unwind (parts y))) here in
         subst (λ m. LayerFlattened m (flat front size unwind (roll-Stmt (parts y)))) (sym (run_roll size d g (parts y))) same_code)

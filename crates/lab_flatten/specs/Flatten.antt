@@ -1,5 +1,5 @@
--- How structured code over frames becomes lines. x9 is the pass's own register. A frame has the return address at x2, where there are handlers a record (the former x8, and where its handler's code begins) from x2 + 8 on, and then the slots.
-use Rattle.std.specs.Prelude.{ℕ, ℤ, pos, negsuc, ◌+◌, ◌-◌, ◌*◌, ◌/◌, ◌%◌, ◌^◌, ◌&&◌, nat_lt, Bool, true, false, if◌then◌else◌, List, [], ◌∷◌, ◌++◌, Option, Some, None, length, map}
+-- How structured code over frames becomes lines. x9 is the pass's own register. Where a function calls, other than by a tail call, its frame has the return address at x2; where it catches also a record (the former x8, and where its handler's code begins) from x2 + 8 on; then come the slots. Any other function keeps the return address in x1, and without slots it has no frame.
+use Rattle.std.specs.Prelude.{ℕ, ℤ, pos, negsuc, ◌+◌, ◌-◌, ◌*◌, ◌/◌, ◌%◌, ◌^◌, ◌&&◌, nat_eq, nat_lt, Bool, true, false, if◌then◌else◌, List, [], ◌∷◌, ◌++◌, Option, Some, None, length, map}
 use Rattle.pan_base.specs.Words.{signed}
 use Rattle.pan_base.specs.declared.operators.LOp.TheVariants.{Ld}
 use Rattle.pan_base.specs.declared.operators.SOp.TheVariants.{Sd}
@@ -52,9 +52,17 @@ slot_at front k = 8 * (front + k)
 abbrev pub below : ℕ → List Line
 below n = if is_near n then line.Plain (instr.I Addi 9 2 (negsuc (n - 1))) ∷ [] else line.Plain (instr.U Lui 9 (high n)) ∷ line.Plain (instr.I Addi 9 9 (low n)) ∷ line.Plain (instr.R Sub 9 2 9) ∷ []
 
+-- lines that stand where there are some of something
+abbrev pub where_some : ℕ → List Line → List Line
+where_some n xs = if nat_eq n 0 then [] else xs
+
+-- The frame of this size is made, where the stack has room for it; else to the stub. The return address goes into it, where it has a word for it.
+abbrev pub front_lines : (front size stub : ℕ) → List Line
+front_lines front size stub = where_some size (below size ++ line.Branch Ltu 9 4 stub ∷ line.Plain (instr.I Addi 2 9 (pos 0)) ∷ []) ++ where_some front (line.Plain (instr.S Sd 2 1 (pos 0)) ∷ [])
+
 -- the frame is given up, and the return address is in x1
-abbrev pub off : ℕ → List Line → List Line
-off size last = line.Plain (instr.L Ld 1 2 (pos 0)) ∷ (reach size ++ line.Plain (instr.I Addi 2 (base size) (rest size)) ∷ last)
+abbrev pub off : (front size : ℕ) → List Line → List Line
+off front size last = where_some front (line.Plain (instr.L Ld 1 2 (pos 0)) ∷ []) ++ (where_some size (reach size ++ line.Plain (instr.I Addi 2 (base size) (rest size)) ∷ []) ++ last)
 
 -- ---- statements
 
@@ -175,8 +183,8 @@ module _ (front size unwind : ℕ) where
   flat_layer stmt.Break = record { labels = 0; none = λ last. false; lines = λ n b c last. line.Jump b ∷ [] }
   flat_layer stmt.Continue = record { labels = 0; none = λ last. last; lines = λ n b c last. if last then [] else line.Jump c ∷ [] }
   flat_layer (stmt.Call f returned handler) = flat_call f returned handler
-  flat_layer (stmt.TailCall f) = bare (off size (line.Jump f ∷ []))
-  flat_layer stmt.Return = bare (off size (line.JumpReg 1 ∷ []))
+  flat_layer (stmt.TailCall f) = bare (off front size (line.Jump f ∷ []))
+  flat_layer stmt.Return = bare (off front size (line.JumpReg 1 ∷ []))
   flat_layer (stmt.Raise i) = bare (line.Plain (instr.I Addi 1 0 (pos i)) ∷ line.Jump unwind ∷ [])
 
   unfoldable pub flat : Stmt → Flat
@@ -207,7 +215,7 @@ empty = fold-Stmt (Bool → Bool) empty_layer
 -- the lines of a function, whose label is its number, where `stub` is the label of the end for want of stack
 abbrev pub function_lines : ℕ → ℕ → ℕ → ℕ → StackFun → List Line
 function_lines f n stub unwind g =
-    line.Label f ∷ (below g.frame ++ line.Branch Ltu 9 4 stub ∷ line.Plain (instr.I Addi 2 9 (pos 0)) ∷ line.Plain (instr.S Sd 2 1 (pos 0)) ∷ (flat (front_words g) g.frame unwind g.body).lines n stub stub false)
+    line.Label f ∷ (front_lines (front_words g) g.frame stub ++ (flat (front_words g) g.frame unwind g.body).lines n stub stub false)
 
 -- what stands first: main's call, and the end that it gives
 abbrev pub start_lines : ℕ → List Line

@@ -10,13 +10,12 @@ ghost use Rattle.lab_lang.specs.Stage as labs;
 ghost use Rattle.lab_flatten.specs.Contract.{RunsOnFuel};
 ghost use Rattle.lab_flatten.specs.Flatten.{flat, function_lines, functions_lines, labels_in, lab_function, lab_program};
 
-use crate::fronts::words_before_slots;
 use crate::outer_rows::{put_start, put_stub, put_unwind};
 use crate::rows::put_entry;
 use crate::statements::{Place, after, flatten_stmt};
 use lab_lang::{LabFun, LabProg, Line};
 use pan_base::{Blob, List, NoMemory};
-use stack_lang::{StackFun, StackProg};
+use stack_lang::{StackFun, StackProg, words_before_slots};
 use std::alloc::Global;
 
 /// How many there are. A program has at most 4,096 functions.
@@ -39,20 +38,20 @@ fn flatten_function(
     unwind: u32,
     free: u32,
 ) -> Result<u32, NoMemory>
-    requires some { 1 ≤ function.now.frame }
-    requires few { function.now.frame < 2 ^ 40 }
+    requires { function.now.frame < 2 ^ 40 }
     ensures lines { IfOk result (λ next. lines.new ≡ lines.old ++ function_lines number free stub unwind function.now) }
     ensures labels { IfOk result (λ next. next ≡ free + (flat (front_words function.now) function.now.frame unwind function.now.body).labels) }
 {
+    let front = words_before_slots(&function.body);
     let place = Place {
-        front: words_before_slots(function),
+        front,
         size: function.frame,
         unwind,
         out: stub,
         again: stub,
         last: false,
     };
-    put_entry(lines, number, function.frame, stub)?;
+    put_entry(lines, number, front, function.frame, stub)?;
     flatten_stmt(lines, place, &function.body, free)
 }
 
@@ -64,7 +63,7 @@ fn flatten_functions(
     unwind: u32,
     free: u32,
 ) -> Result<u32, NoMemory>
-    requires { All (λ f. (1 ≤ f.frame) × (f.frame < 2 ^ 40)) functions.now }
+    requires { All (λ f. f.frame < 2 ^ 40) functions.now }
     ensures lines { IfOk result (λ next. lines.new ≡ lines.old ++ functions_lines stub unwind functions.now 0 free) }
     ensures labels { IfOk result (λ next. next ≡ free + labels_in unwind functions.now) }
 {

@@ -4,7 +4,6 @@
 mod blocks;
 mod emptiness;
 mod flattening;
-mod fronts;
 mod outer_rows;
 mod rows;
 mod statements;

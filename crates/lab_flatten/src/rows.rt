@@ -1,7 +1,7 @@
 //! Fixed rows of lines in functions.
 
 ghost use Rattle.std.specs.Prelude.{◌≡◌, ℕ, ◌+◌, ◌^◌, ◌<◌, ◌≤◌, ◌++◌, [], ◌∷◌, pos, negsuc, IfOk, OnOk};
-ghost use Rattle.lab_flatten.specs.Flatten.{high, low, reach, base, rest, slot_at, below, off, pushed};
+ghost use Rattle.lab_flatten.specs.Flatten.{high, low, reach, base, rest, where_some, slot_at, below, front_lines, off, pushed};
 ghost use Rattle.lab_lang.specs.declared.syntax.Line.TheVariants as line;
 ghost use Rattle.stack_lang.specs.Shown.{zero_extending, storing, load_of, store_of};
 ghost use Rattle.riscv_isa.specs.declared.instr.Instr.TheVariants as instr;
@@ -125,15 +125,38 @@ pub fn put_put(lines: &mut List<Line>, front: u64, slot: u32, register: u8) -> R
     put(lines, store(at.0, register, at.1))
 }
 
+/// Brings the return address from the frame into x1, where the frame has it.
+#[tactic(auto, using(crate::proofs::Rules::offset_rules))]
+fn put_linked(lines: &mut List<Line>, front: u64) -> Result<(), NoMemory>
+    ensures { OnOk result (lines.new ≡ lines.old ++ where_some front (line.Plain (instr.L Ld 1 2 (pos 0)) ∷ [])) }
+{
+    if front > 0 {
+        put(lines, load(1, 2, 0))?;
+    }
+    Ok(())
+}
+
+/// Brings x2 to where it was before the frame, where there is one.
+#[tactic(auto, using(crate::proofs::Rules::offset_rules))]
+fn put_raised(lines: &mut List<Line>, size: u64) -> Result<(), NoMemory>
+    requires { size < 2 ^ 40 }
+    ensures { OnOk result (lines.new ≡ lines.old ++ where_some size (reach size ++ line.Plain (instr.I Addi 2 (base size) (rest size)) ∷ [])) }
+{
+    if size > 0 {
+        let at = put_reach(lines, size)?;
+        put(lines, sum(2, at.0, at.1))?;
+    }
+    Ok(())
+}
+
 /// Gives up the frame. Then comes the last line.
 #[tactic(auto, using(crate::proofs::Rules::offset_rules))]
-pub fn put_off(lines: &mut List<Line>, size: u64, last: Line) -> Result<(), NoMemory>
+pub fn put_off(lines: &mut List<Line>, front: u64, size: u64, last: Line) -> Result<(), NoMemory>
     requires { size < 2 ^ 40 }
-    ensures { OnOk result (lines.new ≡ lines.old ++ off size (last ∷ [])) }
+    ensures { OnOk result (lines.new ≡ lines.old ++ off front size (last ∷ [])) }
 {
-    put(lines, load(1, 2, 0))?;
-    let at = put_reach(lines, size)?;
-    put(lines, sum(2, at.0, at.1))?;
+    put_linked(lines, front)?;
+    put_raised(lines, size)?;
     put(lines, last)
 }
 
@@ -194,23 +217,46 @@ pub fn put_number(lines: &mut List<Line>, register: u8, number: i32) -> Result<(
     put(lines, sum(register, 0, number))
 }
 
-/// What stands before a body in a frame of this size.
+/// Makes a frame of this size, where it isn't empty, or goes to the stub where the stack has no room for it.
+#[tactic(auto, using(crate::proofs::Rules::offset_rules))]
+fn put_lowered(lines: &mut List<Line>, size: u64, stub: u32) -> Result<(), NoMemory>
+    requires { size < 2 ^ 40 }
+    ensures { OnOk result (lines.new ≡ lines.old ++ where_some size (below size ++ line.Branch Ltu 9 4 stub ∷ line.Plain (instr.I Addi 2 9 (pos 0)) ∷ [])) }
+{
+    if size > 0 {
+        put_below(lines, size)?;
+        put(lines, Line::Branch(Cmp::Ltu, 9, 4, stub))?;
+        put(lines, sum(2, 9, 0))?;
+    }
+    Ok(())
+}
+
+/// Stores the return address in the frame, where it has a word for it.
+#[tactic(auto, using(crate::proofs::Rules::offset_rules))]
+fn put_link(lines: &mut List<Line>, front: u64) -> Result<(), NoMemory>
+    ensures { OnOk result (lines.new ≡ lines.old ++ where_some front (line.Plain (instr.S Sd 2 1 (pos 0)) ∷ [])) }
+{
+    if front > 0 {
+        put(lines, store(2, 1, 0))?;
+    }
+    Ok(())
+}
+
+/// What stands before a body, for a frame of this size with so many words before its slots.
 #[tactic(auto, using(crate::proofs::Rules::offset_rules))]
 pub fn put_entry(
     lines: &mut List<Line>,
     function: u32,
+    front: u64,
     size: u64,
     stub: u32,
 ) -> Result<(), NoMemory>
-    requires some { 1 ≤ size }
-    requires few { size < 2 ^ 40 }
-    ensures { OnOk result (lines.new ≡ lines.old ++ line.Label function ∷ (below size ++ line.Branch Ltu 9 4 stub ∷ line.Plain (instr.I Addi 2 9 (pos 0)) ∷ line.Plain (instr.S Sd 2 1 (pos 0)) ∷ [])) }
+    requires { size < 2 ^ 40 }
+    ensures { OnOk result (lines.new ≡ lines.old ++ line.Label function ∷ front_lines front size stub) }
 {
     put(lines, Line::Label(function))?;
-    put_below(lines, size)?;
-    put(lines, Line::Branch(Cmp::Ltu, 9, 4, stub))?;
-    put(lines, sum(2, 9, 0))?;
-    put(lines, store(2, 1, 0))
+    put_lowered(lines, size, stub)?;
+    put_link(lines, front)
 }
 
 /// A small number as an immediate. Exceptions and foreign names are below 1,024, and no greater number comes here.

@@ -182,11 +182,11 @@ pub fn flatten_stmt(
             }
         },
         Stmt::TailCall(function) => {
-            put_off(lines, place.size, Line::Jump(*function))?;
+            put_off(lines, place.front, place.size, Line::Jump(*function))?;
             Ok(free)
         }
         Stmt::Return => {
-            put_off(lines, place.size, Line::JumpReg(1))?;
+            put_off(lines, place.front, place.size, Line::JumpReg(1))?;
             Ok(free)
         }
         Stmt::Raise(exception) => {

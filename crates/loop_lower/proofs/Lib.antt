@@ -15,3 +15,4 @@ pub mod LowerRules
 pub mod SizeRules
 pub mod ReachRules
 pub mod StmtRules
+pub mod Spines

@@ -92,4 +92,6 @@ var_place apart y t = ap (λ f. operand f t) (lower_as apart (open_expr.Var y) _
 pub var_next : (apart : Bool) (y t : ℕ) → next (lower apart (e.Var y)) t ≡ t
 var_next apart y t = ap (λ f. next f t) (lower_as apart (open_expr.Var y) _ (e.rolls-Var y))
 
-pub ruleset lower_rules = (append_assoc, number_steps, number_place, number_next, word_steps, word_place, word_next, byte_steps, byte_place, byte_next, bin_steps, bin_place, bin_next, shift_steps, shift_place, shift_next, compare_steps, compare_place, compare_next, var_steps, var_none, var_place, var_next)
+pub ruleset leaf_rules = (number_steps, number_place, number_next, var_steps, var_none, var_place, var_next)
+
+pub ruleset operation_rules = (append_assoc)

@@ -16,7 +16,7 @@ use Rattle.crep_lang.specs.declared.syntax.Expr.{Expr}
 use Rattle.crep_lang.specs.declared.syntax.Expr.TheVariants as e
 use Rattle.crep_lang.specs.declared.syntax.Stmt.{Stmt}
 use Rattle.crep_lang.specs.declared.syntax.Stmt.TheVariants as c
-use Rattle.crep_lang.proofs.Exprs.{read_num, read_var, read_load_word, read_load_byte, read_bin, read_shift, read_compare}
+use Rattle.crep_lang.proofs.Exprs.{steps_load_word, steps_load_byte, steps_bin, steps_shift, steps_compare, read_num, read_var, read_load_word, read_load_byte, read_bin, read_shift, read_compare}
 use Rattle.crep_lang.proofs.Texts as at
 use Rattle.loop_lower.specs.Lowered.{above_handler, first_free}
 use Rattle.loop_lower.proofs.Layers.{above_append}
@@ -44,7 +44,7 @@ above_shift o a n = ap above (read_shift o a n)
 pub above_compare : (o : Cmp) (a b : Expr) → above (variables_read (e.Compare o a b)) ≡ max (above (variables_read a)) (above (variables_read b))
 above_compare o a b = ap above (read_compare o a b) ∙ above_append (variables_read a) (variables_read b)
 
-pub ruleset expr_rules = (above_num, above_var, above_load_word, above_load_byte, above_bin, above_shift, above_compare)
+pub ruleset expr_rules = (steps_load_word, steps_load_byte, steps_bin, steps_shift, steps_compare, above_num, above_var, above_load_word, above_load_byte, above_bin, above_shift, above_compare)
 
 -- ---- rows
 

@@ -92,7 +92,7 @@ pub fn lower_stmt(alloc: Global, room: Room, stmt: &Crep, next: u32) -> Result<P
         }
         Crep::While { before, test, body } => {
             let row = lower_stmts(alloc, room, before.as_slice(), next)?;
-            let test = lower_behind(room, row.stmts, test, row.next)?;
+            let test = lower_behind(alloc, room, row.stmts, test, row.next)?;
             let body = lower_stmt(alloc, room, body.get(), test.next)?;
             repeated(alloc, test, body)
         }

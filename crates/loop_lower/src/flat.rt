@@ -26,7 +26,14 @@ pub fn assign(
 {
     let plan = next_start(room.limit, room.base, next, sizes_of_one(expr));
     let mut steps = List::new(alloc);
-    lower_expr(&mut steps, expr, Some(target), plan.start, plan.apart)?;
+    lower_expr(
+        alloc,
+        &mut steps,
+        expr,
+        Some(target),
+        plan.start,
+        plan.apart,
+    )?;
     Ok(Placed {
         stmt: Stmt::Seq(steps),
         next: plan.next,

@@ -57,8 +57,8 @@ fn lower_functions(alloc: Global, functions: &[CrepFun]) -> Result<List<LoopFun>
 }
 
 /// From expressions to steps between variables: each operand that is no variable is computed into a temporary. The steps
-/// of a loop's test run at each test. Calls nest as deep as an expression does, of a checked source at most 8,191 levels; less
-/// than 4 MiB of stack were measured for that, which no test repeats. `NoMemory` is the one error; it also stands for a temporary whose number passes 32 bits, for which no lawful frame
+/// of a loop's test run at each test. Calls nest as deep as statements and second operands do; a chain of operators is
+/// followed in a loop. `NoMemory` is the one error; it also stands for a temporary whose number passes 32 bits, for which no lawful frame
 /// has room.
 pub fn lower(alloc: Global, prog: &CrepProg) -> Result<LoopProg, NoMemory>
     ensures { IfOk result (λ l. Keeps (crep_stage.stage prog.now.program) (loop_stage.stage l.program)) }

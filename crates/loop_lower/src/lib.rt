@@ -9,5 +9,6 @@ mod numbers;
 mod places;
 mod rows;
 mod sizes;
+mod spine;
 
 pub use functions::lower;

@@ -1,12 +1,14 @@
 //! The steps of expressions.
 
 ghost use Rattle.std.specs.Prelude.{◌≡◌, [], ◌∷◌, ◌++◌, suc, IfOk, OnOk};
-ghost use Rattle.loop_lang.specs.declared.syntax.Stmt.TheVariants as s;
 ghost use Rattle.loop_lower.specs.Lowered.{lower, next, steps_at, place_at, or_spot, spot_of};
+ghost use Rattle.loop_lower.specs.Spine.{leaf_expr, unary_step as step_of_one, binary_step as step_of_two, steps_behind, spot_behind, target_before};
 
+use crate::spine::{Binary, Leaf, Operation, Unary, spine_of};
 use crep_lang::Expr;
 use loop_lang::Stmt;
-use pan_base::{BinOp, Cmp, List, NoMemory, ShOp};
+use pan_base::{List, NoMemory};
+use std::alloc::Global;
 
 /// Where an expression's word is, and the first temporary that is then free.
 #[derive(Clone, Copy, Drop)]
@@ -39,87 +41,104 @@ fn result_at(target: Option<u32>, apart: bool, behind: u32, first: u32) -> Resul
     }
 }
 
-/// Adds the step of a number. (Each kind of step is made in a call of its own, so that the one that calls itself keeps little on
-/// the stack.)
-fn put_const(steps: &mut List<Stmt>, at: Place, number: u64) -> Result<Place, NoMemory>
-    ensures steps { OnOk result (steps.new ≡ steps.old ++ s.Const at.variable number ∷ []) }
-    ensures place { IfOk result (λ p. p ≡ at) }
+/// The step of an operator of one operand.
+fn unary_step(operator: Unary, target: u32, operand: u32) -> Stmt
+    ensures { result ≡ step_of_one operator target operand }
 {
-    put(steps, Stmt::Const(at.variable, number))?;
-    Ok(at)
+    match operator {
+        Unary::LoadWord => Stmt::LoadWord(target, operand),
+        Unary::LoadByte => Stmt::LoadByte(target, operand),
+        Unary::Shift(operator, amount) => Stmt::Shift(operator, target, operand, amount),
+    }
 }
 
-fn put_load_word(steps: &mut List<Stmt>, at: Place, a: Place) -> Result<Place, NoMemory>
-    ensures steps { OnOk result (steps.new ≡ steps.old ++ s.LoadWord at.variable a.variable ∷ []) }
-    ensures place { IfOk result (λ p. p ≡ at) }
+/// The step of an operator of two.
+fn binary_step(operator: Binary, target: u32, first: u32, second: u32) -> Stmt
+    ensures { result ≡ step_of_two operator target first second }
 {
-    put(steps, Stmt::LoadWord(at.variable, a.variable))?;
-    Ok(at)
+    match operator {
+        Binary::Bin(operator) => Stmt::Bin(operator, target, first, second),
+        Binary::Compare(comparison) => Stmt::Compare(comparison, target, first, second),
+    }
 }
 
-fn put_load_byte(steps: &mut List<Stmt>, at: Place, a: Place) -> Result<Place, NoMemory>
-    ensures steps { OnOk result (steps.new ≡ steps.old ++ s.LoadByte at.variable a.variable ∷ []) }
-    ensures place { IfOk result (λ p. p ≡ at) }
-{
-    put(steps, Stmt::LoadByte(at.variable, a.variable))?;
-    Ok(at)
-}
-
-fn put_bin(
+/// Adds the step of an expression without operands; a variable that is an operand needs none.
+#[tactic(auto, using(crate::proofs::LowerRules::leaf_rules))]
+fn lower_leaf(
     steps: &mut List<Stmt>,
-    at: Place,
-    op: BinOp,
-    a: Place,
-    b: Place,
+    leaf: Leaf,
+    target: Option<u32>,
+    free: u32,
+    apart: bool,
 ) -> Result<Place, NoMemory>
-    ensures steps { OnOk result (steps.new ≡ steps.old ++ s.Bin op at.variable a.variable b.variable ∷ []) }
-    ensures place { IfOk result (λ p. p ≡ at) }
+    ensures steps { OnOk result (steps.new ≡ steps.old ++ steps_at apart target (leaf_expr leaf) free) }
+    ensures variable { IfOk result (λ p. p.variable ≡ place_at apart target (leaf_expr leaf) free) }
+    ensures free { IfOk result (λ p. p.free ≡ next (lower apart (leaf_expr leaf)) free) }
 {
-    put(steps, Stmt::Bin(op, at.variable, a.variable, b.variable))?;
-    Ok(at)
+    match leaf {
+        Leaf::Num(number) => {
+            let at = result_at(target, apart, free, free)?;
+            put(steps, Stmt::Const(at.variable, number))?;
+            Ok(at)
+        }
+        Leaf::Var(source) => match target {
+            None => Ok(Place {
+                variable: source,
+                free,
+            }),
+            Some(variable) => {
+                put(steps, Stmt::Move(variable, source))?;
+                Ok(Place { variable, free })
+            }
+        },
+    }
 }
 
-fn put_shift(
+/// Adds the steps of an operation behind those of its first operand.
+#[cycle(lowered)]
+#[tactic(auto, using(crate::proofs::LowerRules::operation_rules))]
+fn lower_operation(
+    alloc: Global,
     steps: &mut List<Stmt>,
-    at: Place,
-    op: ShOp,
-    a: Place,
-    amount: u8,
+    operation: Operation<'_>,
+    first: Place,
+    target: Option<u32>,
+    free: u32,
+    apart: bool,
 ) -> Result<Place, NoMemory>
-    ensures steps { OnOk result (steps.new ≡ steps.old ++ s.Shift op at.variable a.variable amount ∷ []) }
-    ensures place { IfOk result (λ p. p ≡ at) }
+    ensures steps { OnOk result (steps.new ≡ steps.old ++ steps_behind apart target operation.entry first.variable first.free free) }
+    ensures variable { IfOk result (λ p. p.variable ≡ or_spot target (spot_behind apart operation.entry first.free free)) }
+    ensures free { IfOk result (λ p. p.free ≡ suc (spot_behind apart operation.entry first.free free)) }
 {
-    put(steps, Stmt::Shift(op, at.variable, a.variable, amount))?;
-    Ok(at)
+    match operation {
+        Operation::Unary(operator) => {
+            let at = result_at(target, apart, first.free, free)?;
+            put(steps, unary_step(operator, at.variable, first.variable))?;
+            Ok(at)
+        }
+        Operation::Binary(operator, second) => {
+            let second = lower_expr(alloc, steps, second, None, first.free, apart)?;
+            let at = result_at(target, apart, second.free, free)?;
+            let (a, b) = (first.variable, second.variable);
+            put(steps, binary_step(operator, at.variable, a, b))?;
+            Ok(at)
+        }
+    }
 }
 
-fn put_compare(
-    steps: &mut List<Stmt>,
-    at: Place,
-    comparison: Cmp,
-    a: Place,
-    b: Place,
-) -> Result<Place, NoMemory>
-    ensures steps { OnOk result (steps.new ≡ steps.old ++ s.Compare comparison at.variable a.variable b.variable ∷ []) }
-    ensures place { IfOk result (λ p. p ≡ at) }
+/// The target, where no operation follows; an operand has none.
+fn target_now(later: &List<Operation<'_>>, target: Option<u32>) -> Option<u32>
+    ensures { result ≡ target_before later.now target }
 {
-    put(
-        steps,
-        Stmt::Compare(comparison, at.variable, a.variable, b.variable),
-    )?;
-    Ok(at)
+    if later.is_empty() { target } else { None }
 }
 
-fn put_move(steps: &mut List<Stmt>, target: u32, source: u32) -> Result<(), NoMemory>
-    ensures { OnOk result (steps.new ≡ steps.old ++ s.Move target source ∷ []) }
-{
-    put(steps, Stmt::Move(target, source))
-}
-
-/// Adds the steps that compute an expression into a target, or to where it then is an operand. `NoMemory` also says that the
-/// number of a temporary would pass 32 bits; where temporaries fit a lawful frame, none does.
-#[tactic(auto, using(crate::proofs::LowerRules::lower_rules))]
+/// Adds the steps that compute an expression into a target, or to where it then is an operand. Calls nest as deep as second
+/// operands do. `NoMemory` also says that the number of a temporary would pass 32 bits; where temporaries fit a lawful frame,
+/// none does.
+#[cycle(lowered)]
 pub fn lower_expr(
+    alloc: Global,
     steps: &mut List<Stmt>,
     expr: &Expr,
     target: Option<u32>,
@@ -130,47 +149,13 @@ pub fn lower_expr(
     ensures variable { IfOk result (λ p. p.variable ≡ place_at apart target expr.now free) }
     ensures free { IfOk result (λ p. p.free ≡ next (lower apart expr.now) free) }
 {
-    match expr {
-        Expr::Num(number) => {
-            let at = result_at(target, apart, free, free)?;
-            put_const(steps, at, *number)
-        }
-        Expr::Var(source) => match target {
-            None => Ok(Place {
-                variable: *source,
-                free,
-            }),
-            Some(variable) => {
-                put_move(steps, variable, *source)?;
-                Ok(Place { variable, free })
-            }
-        },
-        Expr::LoadWord(address) => {
-            let a = lower_expr(steps, address.get(), None, free, apart)?;
-            let at = result_at(target, apart, a.free, free)?;
-            put_load_word(steps, at, a)
-        }
-        Expr::LoadByte(address) => {
-            let a = lower_expr(steps, address.get(), None, free, apart)?;
-            let at = result_at(target, apart, a.free, free)?;
-            put_load_byte(steps, at, a)
-        }
-        Expr::Bin(op, left, right) => {
-            let a = lower_expr(steps, left.get(), None, free, apart)?;
-            let b = lower_expr(steps, right.get(), None, a.free, apart)?;
-            let at = result_at(target, apart, b.free, free)?;
-            put_bin(steps, at, *op, a, b)
-        }
-        Expr::Shift(op, of, amount) => {
-            let a = lower_expr(steps, of.get(), None, free, apart)?;
-            let at = result_at(target, apart, a.free, free)?;
-            put_shift(steps, at, *op, a, *amount)
-        }
-        Expr::Compare(comparison, first, second) => {
-            let a = lower_expr(steps, first.get(), None, free, apart)?;
-            let b = lower_expr(steps, second.get(), None, a.free, apart)?;
-            let at = result_at(target, apart, b.free, free)?;
-            put_compare(steps, at, *comparison, a, b)
-        }
+    let spine = spine_of(alloc, expr)?;
+    let mut later = spine.operations;
+    let into = target_now(&later, target);
+    let mut place = lower_leaf(steps, spine.leaf, into, free, apart)?;
+    'operations: while let Some(operation) = later.pop() {
+        let into = target_now(&later, target);
+        place = lower_operation(alloc, steps, operation, place, into, free, apart)?;
     }
+    Ok(place)
 }

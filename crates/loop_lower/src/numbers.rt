@@ -26,19 +26,29 @@ fn above_numbers(numbers: &[u32]) -> u64
     most
 }
 
-/// A number above those of all variables of an expression.
+/// A number above those of all variables of an expression. First operands are followed in a loop.
 #[tactic(auto, using(crate::proofs::ReachRules::expr_rules))]
 fn above_expr(expr: &Expr) -> u64
     ensures { result ≡ above (variables_read expr.now) }
 {
-    match expr {
-        Expr::Num(_) => 0,
-        Expr::Var(variable) => *variable as u64 + 1,
-        Expr::LoadWord(address) => above_expr(address.get()),
-        Expr::LoadByte(address) => above_expr(address.get()),
-        Expr::Bin(_, left, right) => greater(above_expr(left.get()), above_expr(right.get())),
-        Expr::Shift(_, of, _) => above_expr(of.get()),
-        Expr::Compare(_, left, right) => greater(above_expr(left.get()), above_expr(right.get())),
+    let mut most = 0;
+    let mut rest = expr;
+    'operands: loop {
+        match rest {
+            Expr::Num(_) => return most,
+            Expr::Var(variable) => return greater(most, *variable as u64 + 1),
+            Expr::LoadWord(address) => rest = address.get(),
+            Expr::LoadByte(address) => rest = address.get(),
+            Expr::Bin(_, left, right) => {
+                most = greater(most, above_expr(right.get()));
+                rest = left.get();
+            }
+            Expr::Shift(_, of, _) => rest = of.get(),
+            Expr::Compare(_, left, right) => {
+                most = greater(most, above_expr(right.get()));
+                rest = left.get();
+            }
+        }
     }
 }
 

@@ -62,7 +62,7 @@ fn lower_all(
     let mut variables = List::new(alloc);
     let mut next = free;
     for i in 0..exprs.len() {
-        let place = lower_expr(steps, &exprs[i], None, next, apart)?;
+        let place = lower_expr(alloc, steps, &exprs[i], None, next, apart)?;
         variables.push(place.variable)?;
         next = place.free;
     }
@@ -72,6 +72,7 @@ fn lower_all(
 /// Adds the steps of an operand to others.
 #[tactic(auto, using(crate::proofs::Layers::append_none))]
 pub fn lower_behind(
+    alloc: Global,
     room: Room,
     steps: List<Stmt>,
     expr: &Expr,
@@ -83,7 +84,7 @@ pub fn lower_behind(
 {
     let plan = next_start(room.limit, room.base, next, sizes_of_one(expr));
     let mut steps = steps;
-    let place = lower_expr(&mut steps, expr, None, plan.start, plan.apart)?;
+    let place = lower_expr(alloc, &mut steps, expr, None, plan.start, plan.apart)?;
     Ok(OneReady {
         steps,
         variable: place.variable,
@@ -97,7 +98,7 @@ pub fn lower_one(alloc: Global, room: Room, expr: &Expr, next: u32) -> Result<On
     ensures variable { IfOk result (λ r. r.variable ≡ nth 0 (row_operands room.limit room.base (expr.now ∷ []) next)) }
     ensures next { IfOk result (λ r. r.next ≡ (planned room.limit room.base (expr.now ∷ []) next).next) }
 {
-    lower_behind(room, List::new(alloc), expr, next)
+    lower_behind(alloc, room, List::new(alloc), expr, next)
 }
 
 /// Computes two operands.
@@ -116,8 +117,8 @@ pub fn lower_two(
 {
     let plan = next_start(room.limit, room.base, next, sizes_of_two(first, second));
     let mut steps = List::new(alloc);
-    let first = lower_expr(&mut steps, first, None, plan.start, plan.apart)?;
-    let second = lower_expr(&mut steps, second, None, first.free, plan.apart)?;
+    let first = lower_expr(alloc, &mut steps, first, None, plan.start, plan.apart)?;
+    let second = lower_expr(alloc, &mut steps, second, None, first.free, plan.apart)?;
     Ok(TwoReady {
         steps,
         first: first.variable,
@@ -147,10 +148,10 @@ pub fn lower_four(
     let sizes = sizes_of_four(first, second, third, fourth);
     let plan = next_start(room.limit, room.base, next, sizes);
     let mut steps = List::new(alloc);
-    let first = lower_expr(&mut steps, first, None, plan.start, plan.apart)?;
-    let second = lower_expr(&mut steps, second, None, first.free, plan.apart)?;
-    let third = lower_expr(&mut steps, third, None, second.free, plan.apart)?;
-    let fourth = lower_expr(&mut steps, fourth, None, third.free, plan.apart)?;
+    let first = lower_expr(alloc, &mut steps, first, None, plan.start, plan.apart)?;
+    let second = lower_expr(alloc, &mut steps, second, None, first.free, plan.apart)?;
+    let third = lower_expr(alloc, &mut steps, third, None, second.free, plan.apart)?;
+    let fourth = lower_expr(alloc, &mut steps, fourth, None, third.free, plan.apart)?;
     Ok(FourReady {
         steps,
         first: first.variable,

@@ -24,7 +24,7 @@ pub fn at_most(n: u32) -> u32
     if n < 1048576 { n } else { 1048576 }
 }
 
-/// What a step that is worth so many needs behind one operand.
+/// What is needed with an operator of one operand, which is worth so many.
 fn with_one(of: Sizes, own: u32) -> Sizes
     requires own { own ≤ 3 }
     requires many { of.many ≤ most_words }
@@ -37,7 +37,7 @@ fn with_one(of: Sizes, own: u32) -> Sizes
     }
 }
 
-/// What one needs behind two.
+/// What is needed with an operator of two, whose second operand needs what stands to the right.
 fn with_two(left: Sizes, right: Sizes, own: u32) -> Sizes
     requires own { own ≤ 3 }
     requires left { left.many ≤ most_words }
@@ -54,20 +54,40 @@ fn with_two(left: Sizes, right: Sizes, own: u32) -> Sizes
     }
 }
 
-/// How many temporaries an expression needs.
+/// How many temporaries an expression needs. First operands are followed in a loop.
 #[tactic(auto, using(crate::proofs::SizeRules::size_rules))]
 pub fn sizes_of(expr: &Expr) -> Sizes
     ensures many { result.many ≡ capped (expr_steps expr.now) }
     ensures few { result.few ≡ capped (temporaries expr.now) }
 {
-    match expr {
-        Expr::Num(_) => Sizes { many: 1, few: 1 },
-        Expr::Var(_) => Sizes { many: 1, few: 1 },
-        Expr::LoadWord(address) => with_one(sizes_of(address.get()), 1),
-        Expr::LoadByte(address) => with_one(sizes_of(address.get()), 1),
-        Expr::Bin(_, left, right) => with_two(sizes_of(left.get()), sizes_of(right.get()), 1),
-        Expr::Shift(_, of, _) => with_one(sizes_of(of.get()), 3),
-        Expr::Compare(_, left, right) => with_two(sizes_of(left.get()), sizes_of(right.get()), 3),
+    let nothing = Sizes { many: 0, few: 0 };
+    let mut behind = nothing;
+    let mut rest = expr;
+    'operands: loop {
+        match rest {
+            Expr::Num(_) => return with_two(behind, nothing, 1),
+            Expr::Var(_) => return with_two(behind, nothing, 1),
+            Expr::LoadWord(address) => {
+                behind = with_one(behind, 1);
+                rest = address.get();
+            }
+            Expr::LoadByte(address) => {
+                behind = with_one(behind, 1);
+                rest = address.get();
+            }
+            Expr::Bin(_, left, right) => {
+                behind = with_two(behind, sizes_of(right.get()), 1);
+                rest = left.get();
+            }
+            Expr::Shift(_, of, _) => {
+                behind = with_one(behind, 3);
+                rest = of.get();
+            }
+            Expr::Compare(_, left, right) => {
+                behind = with_two(behind, sizes_of(right.get()), 3);
+                rest = left.get();
+            }
+        }
     }
 }
 

@@ -8,8 +8,7 @@ use Rattle.front_end.specs.Sources.{IsChecked, Unchecked}
 use Rattle.front_end.specs.declared.error.SourceError.{SourceError}
 use Rattle.pan_command.specs.declared.status.Status.{Status}
 use Rattle.pan_command.specs.declared.status.Status.TheVariants as status
-use Rattle.pan_command.specs.declared.error.BuildError.TheVariants.{Source}
-use Rattle.pan_command.specs.Served.{source_line}
+use Rattle.pan_command.specs.Reading.{source_line}
 use Rattle.pan_command.specs.Status.{code}
 use Rattle.pan_command.specs.Outside.{Call, IsPut, IsUndisturbed}
 use Rattle.pan_command.specs.Check.{CheckCases, weight_line}
@@ -33,14 +32,14 @@ module _ (call : Call) (all : Files) (source : List ℕ) (fine : IsUndisturbed c
     passed_ends program checked status.NoMemory h = inr refl
     passed_ends program checked (status.Ran end) h = absurd h
 
-    pub unpassed_ends : (e : SourceError) → Unchecked bytes e → (s : Status) → CheckCases source call s → ((code s ≡ 4) × IsPut call (source_line (Source e))) ⊎ (code s ≡ 8)
+    pub unpassed_ends : (e : SourceError) → Unchecked bytes e → (s : Status) → CheckCases source call s → ((code s ≡ 4) × IsPut call (source_line e)) ⊎ (code s ≡ 8)
     unpassed_ends e unchecked status.Done h =
         absurd (((h.read).source).accepted e (subst (λ b. Unchecked b e) (sym (same_bytes _ all source bytes (h.read).bytes fine.told there (h.read).held)) unchecked))
     unpassed_ends e unchecked status.Usage h = absurd h
     unpassed_ends e unchecked status.Unread h = absurd (not_unread _ call all source bytes fine there h)
     unpassed_ends e unchecked status.Refused h =
         let same = h.only e (subst (λ b. Unchecked b e) (sym (same_bytes _ all source bytes h.bytes fine.told there h.held)) unchecked) in
-        inl (refl, subst (λ r. IsPut call (source_line (Source r))) (sym same) h.line)
+        inl (refl, subst (λ r. IsPut call (source_line r)) (sym same) h.line)
     unpassed_ends e unchecked status.NoImage h = absurd h
     unpassed_ends e unchecked status.NoScript h = absurd h
     unpassed_ends e unchecked status.Unwritten h = absurd h

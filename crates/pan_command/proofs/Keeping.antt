@@ -1,6 +1,7 @@
 -- The promises of each action, from how it ended.
 use Rattle.std.proofs.Common.{ℕ, List, refl}
 use Rattle.command_words.specs.declared.order.Options.{Options}
+use Rattle.command_words.specs.declared.order.Stage.{Stage}
 use Rattle.pan_command.specs.declared.status.Status.{Status}
 use Rattle.pan_command.specs.Status.{code}
 use Rattle.pan_command.specs.Outside.{Call}
@@ -8,11 +9,15 @@ use Rattle.pan_command.specs.Compile.{CompileEnds}
 use Rattle.pan_command.specs.Check.{CheckEnds}
 use Rattle.pan_command.specs.Run.{RunEnds}
 use Rattle.pan_command.specs.Meaning.{MeaningEnds}
-use Rattle.pan_command.specs.Promises.{CompileKeeps, CheckKeeps, RunKeeps, MeaningKeeps}
+use Rattle.pan_command.specs.Show.{ShowEnds}
+use Rattle.pan_command.specs.Dis.{DisEnds}
+use Rattle.pan_command.specs.Promises.{CompileKeeps, CheckKeeps, RunKeeps, MeaningKeeps, ShowKeeps, DisKeeps}
 use Rattle.pan_command.proofs.CompileCompleteness as compiling
 use Rattle.pan_command.proofs.CheckCompleteness as checking
 use Rattle.pan_command.proofs.RunCompleteness as running
 use Rattle.pan_command.proofs.MeaningCompleteness as meaning
+use Rattle.pan_command.proofs.ShowCompleteness as showing
+use Rattle.pan_command.proofs.DisCompleteness as listing
 
 pub compile_keeps : (source image : List ℕ) (call : Call) (s : Status) → CompileEnds source image call s → CompileKeeps source image call (code s)
 compile_keeps source image call s h = record {
@@ -22,7 +27,7 @@ compile_keeps source image call s h = record {
   refused = compiling.refused_at call source image s h;
   starved = compiling.starved_at call source image s h;
   only = compiling.compile_code call source image s h;
-  complete = λ files program fine has. compiling.served_ends call files source image fine has.0 program has.1 has.2 s h;
+  complete = λ files program fine has. compiling.checked_ends call files source image fine has.0 program has.1 has.2 s h;
   refuses = λ files reason fine has. compiling.refused_ends call files source image fine has.0 reason has.1 has.2 s h;
   missing = λ files fine gone. compiling.missing_ends call files source image fine gone s h;
 }
@@ -59,4 +64,20 @@ meaning_keeps options source script call s h = record {
       (meaning.found options call source script s fine.puts h.1);
   script_missing = λ files program fine has gone. meaning.script_missing options call files source script (code s) fine has.0 has.1 program has.2 gone
       (meaning.found options call source script s fine.puts h.1);
+}
+
+pub show_keeps : (stage : Stage) (source : List ℕ) (call : Call) (s : Status) → ShowEnds stage source call s → ShowKeeps stage source call (code s)
+show_keeps stage source call s h = record {
+  ends = (s, refl, h);
+  complete = λ files program fine has. showing.passed_ends stage call files source fine has.0 has.1 program has.2 s h.1;
+  refuses = λ files reason fine has. showing.unpassed_ends stage call files source fine has.0 has.1 reason has.2 s h.1;
+  missing = λ files fine gone. showing.missing_ends stage call files source fine gone s h.1;
+}
+
+pub dis_keeps : (image : List ℕ) (call : Call) (s : Status) → DisEnds image call s → DisKeeps image call (code s)
+dis_keeps image call s h = record {
+  ends = (s, refl, h);
+  complete = λ files parts fine has. listing.listed_ends call files image fine has.0 has.1 parts has.2 s h.1;
+  refuses = λ files bytes fine there wrong. listing.refused_ends call files image fine bytes there wrong s h.1;
+  missing = λ files fine gone. listing.missing_ends call files image fine gone s h.1;
 }

@@ -2,8 +2,9 @@ pub mod Told
 pub mod Results
 pub mod Following
 pub mod FilledMemory
-pub mod Reasons
 pub mod Refusals
+pub mod Spelled
+pub mod Loaded
 pub mod Storing
 pub mod PlayingLaws
 pub mod Outcomes
@@ -14,5 +15,7 @@ pub mod CompileCompleteness
 pub mod CheckCompleteness
 pub mod RunCompleteness
 pub mod MeaningCompleteness
+pub mod ShowCompleteness
+pub mod DisCompleteness
 pub mod Keeping
 pub mod WrongImage

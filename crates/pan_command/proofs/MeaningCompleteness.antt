@@ -11,13 +11,11 @@ use Rattle.command_words.specs.declared.order.Options.{Options}
 use Rattle.device_script.specs.Script.{Content, Refusal, script_of_file}
 use Rattle.pan_command.specs.declared.status.Status.{Status}
 use Rattle.pan_command.specs.declared.status.Status.TheVariants as status
-use Rattle.pan_command.specs.declared.error.BuildError.TheVariants.{Source}
-use Rattle.pan_command.specs.Served.{source_line}
+use Rattle.pan_command.specs.Reading.{source_line, SourceRead, ScriptRead, ScriptRefused, script_line}
 use Rattle.pan_command.specs.Status.{code, end_code}
 use Rattle.pan_command.specs.Outside.{Call, IsPut, PutFailed, IsUndisturbed}
 use Rattle.pan_command.specs.Check.{Unpassed}
 use Rattle.pan_command.specs.Playing.{Plays, Played}
-use Rattle.pan_command.specs.Reading.{SourceRead, ScriptRead, ScriptRefused, script_line}
 use Rattle.pan_command.specs.Meaning.{MeaningCases, MeaningUnread, source_goes}
 use Rattle.pan_command.proofs.RunCompleteness.{script_is, refusal_is}
 use Rattle.pan_command.proofs.Told.{same_bytes, not_held, not_unread}
@@ -55,12 +53,12 @@ module _ (options : Options) (call : Call) (all : Files) (source script : List �
     not_read : (e : SourceError) → Unchecked bytes e → (p : SourceRead call.before source) → ⊥
     not_read e wrong p = (p.source).accepted e (subst (λ b. Unchecked b e) (sym (same_bytes _ all source bytes p.bytes fine.told there p.held)) wrong)
 
-    pub refused : (e : SourceError) → Unchecked bytes e → Found options call source script n → ((n ≡ 4) × IsPut call (source_line (Source e))) ⊎ (n ≡ 8)
+    pub refused : (e : SourceError) → Unchecked bytes e → Found options call source script n → ((n ≡ 4) × IsPut call (source_line e)) ⊎ (n ≡ 8)
     refused e wrong (IsStarved is) = inr is
     refused e wrong (IsUnread is h) = absurd (elim h [ inl u ↦ not_unread _ call all source bytes fine there u | inr p ↦ not_read e wrong p.0 ])
     refused e wrong (IsRefused is h) =
         let same = h.only e (subst (λ b. Unchecked b e) (sym (same_bytes _ all source bytes h.bytes fine.told there h.held)) wrong) in
-        inl (is, subst (λ r. IsPut call (source_line (Source r))) (sym same) h.line)
+        inl (is, subst (λ r. IsPut call (source_line r)) (sym same) h.line)
     refused e wrong (IsNoScript is p h) = absurd (not_read e wrong p)
     refused e wrong (IsRan end is p r h) = absurd (not_read e wrong p)
 

@@ -9,36 +9,61 @@ use Rattle.riscv_isa.specs.Image.{ImageParts, ImageOf}
 use Rattle.image_file.specs.Faults.{fault_of}
 use Rattle.image_file.specs.declared.error.ImageError.{ImageError}
 use Rattle.image_file.specs.declared.error.ImageError.TheVariants as fault
-use Rattle.pan_command.specs.declared.error.BuildError.{BuildError}
-use Rattle.pan_command.specs.declared.error.BuildError.TheVariants.{Source, NoMemory}
-use Rattle.pan_command.specs.Outside.{Outside, Call, files_before, NoFileChanged, Holds}
-use Rattle.pan_command.specs.Served.{IsServed, IsRefusedFor, source_line}
-use Rattle.pan_command.specs.Compile.{CompileRefused}
+use Rattle.pan_agree.specs.Faithful.{Faithful}
+use Rattle.pan_driver.specs.Chained.{parts, Chained}
+use Rattle.pan_driver.specs.Errors.{source_error, Unbuilt}
+use Rattle.pan_driver.specs.InTime.{IsInTime, IsShort}
+use Rattle.pan_driver.specs.declared.built.Stages.{Stages}
+use Rattle.pan_driver.specs.declared.error.BuildError.{BuildError}
+use Rattle.pan_driver.specs.declared.error.BuildError.TheVariants.{NoMemory}
+use Rattle.pan_command.specs.Building.{IsBuilt}
+use Rattle.pan_command.specs.Outside.{Outside, Holds}
 use Rattle.pan_command.specs.Check.{Unpassed}
-use Rattle.pan_command.specs.Reading.{IsImage, IsSource}
+use Rattle.pan_command.specs.Reading.{IsImage, IsSource, source_line}
 use Rattle.pan_command.specs.Run.{NoImage, image_line}
 use Rattle.pan_command.proofs.Results.{Gives, no_error, same_value, no_value, same_error, not_memory}
 
--- the source was not compiled
-pub refused_so : (call : Call) (source bytes : List ℕ) (error : BuildError) → Holds (files_before call) source bytes → (error ≡ NoMemory → ⊥) → (error ≡ NoMemory) ⊎ IsRefusedFor bytes error
-    → ((e : BuildError) → IsRefusedFor bytes e → Gives {A = List ℕ} NoMemory (Err error) (Err e)) → ((p : Program) → IsServed bytes p → error ≡ NoMemory)
-    → (Prints : List ℕ → Type 0) → NoFileChanged call → Prints (source_line error) → CompileRefused Prints call source
-refused_so call source bytes error held other refused exact served Prints unchanged line = record {
-  bytes = bytes;
-  held = held;
-  reason = error;
-  refused = not_memory (IsRefusedFor bytes) NoMemory error other refused;
-  only = λ e h. same_error {A = List ℕ} NoMemory e error other (exact e h);
-  unserved = λ p s. other (served p s);
-  same = unchanged;
-  line = line;
+-- bytes are a source of one program or refused for one reason, and never both
+pub record OneReading : Type 0 where
+  pub program : (bytes : List ℕ) (p q : Program) → IsChecked bytes p → IsChecked bytes q → p ≡ q
+  pub reason : (bytes : List ℕ) (d e : SourceError) → Unchecked bytes d → Unchecked bytes e → d ≡ e
+  pub apart : (bytes : List ℕ) (p : Program) (e : SourceError) → IsChecked bytes p → ¬ Unchecked bytes e
+
+-- the source was built
+pub built_so : OneReading → (bytes : List ℕ) (stages : Stages) (image : List ℕ) → Chained bytes stages image → Faithful stages.checked image (parts stages) → IsInTime stages.checked (parts stages)
+    → IsShort stages.checked (parts stages) → IsBuilt bytes stages image
+built_so one bytes stages image chained faithful in_time short = record {
+  source = record {
+    checked = chained.checked;
+    only = λ p s. one.program bytes p stages.checked s chained.checked;
+    accepted = λ e h. one.apart bytes stages.checked e chained.checked h;
+  };
+  chained = chained;
+  faithful = faithful;
+  in_time = in_time;
+  short = short;
 }
+
+-- it was not built
+pub unbuilt_so : OneReading → (before : Outside) (name bytes : List ℕ) → Holds (before.files).files name bytes → (e : BuildError) → (e ≡ NoMemory → ⊥) → (e ≡ NoMemory) ⊎ Unbuilt bytes e
+    → (Prints : List ℕ → Type 0) → Prints (source_line (source_error e)) → Unpassed Prints before name
+unbuilt_so one before name bytes held e other refused Prints line =
+    let why = not_memory (Unbuilt bytes) NoMemory e other refused in
+    record {
+      bytes = bytes;
+      held = held;
+      reason = source_error e;
+      refused = why;
+      only = λ d h. one.reason bytes d (source_error e) h why;
+      unchecked = λ p s. one.apart bytes p (source_error e) s why;
+      line = line;
+    }
 
 module _ (before : Outside) (source bytes : List ℕ) (held : Holds (before.files).files source bytes) (Prints : List ℕ → Type 0) where
   -- the source was not read
   pub unpassed_so : (error : SourceError) → (error ≡ wrong.NoMemory → ⊥) → (error ≡ wrong.NoMemory) ⊎ Unchecked bytes error
       → ((p : Program) → IsChecked bytes p → Gives {A = Program} wrong.NoMemory (Err error) (Ok p)) → ((e : SourceError) → Unchecked bytes e → Gives {A = Program} wrong.NoMemory (Err error) (Err e))
-      → Prints (source_line (Source error)) → Unpassed Prints before source
+      → Prints (source_line error) → Unpassed Prints before source
   unpassed_so error other refused passes exact line = record {
     bytes = bytes;
     held = held;

@@ -4,15 +4,11 @@ use Rattle.std.specs.Prelude.{◌⊎◌}
 use Rattle.pan_base.specs.Causes.{Rose}
 use Rattle.pan_base.specs.Files.{Files, NoneChanged, Stored, StoredBelow}
 use Rattle.pan_base.specs.Sinks.{Took, TookFront}
-use Rattle.pan_tree.specs.declared.program.Program.{Program}
-use Rattle.riscv_isa.specs.Image.{ImageParts}
-use Rattle.pan_agree.specs.Faithful.{Faithful}
 use Rattle.pan_command.specs.declared.status.Status.{Status}
 use Rattle.pan_command.specs.declared.status.Status.TheVariants as status
-use Rattle.pan_command.specs.Served.{IsServed, IsRefusedFor}
-use Rattle.pan_command.specs.declared.error.BuildError.{BuildError}
-use Rattle.pan_command.specs.Outside.{Outside, between, Holds}
-use Rattle.pan_command.specs.Compile.{Built, CompileEnds, StoreEnds}
+use Rattle.pan_command.specs.Building.{SourceBuilt}
+use Rattle.pan_command.specs.Outside.{Outside, between}
+use Rattle.pan_command.specs.Compile.{CompileEnds, StoreEnds}
 
 stored_after : (a b c : Option Files) (name bytes : List ℕ) → NoneChanged a b → Stored b c name bytes → Stored a c name bytes
 stored_after None None None name bytes same stored = tt
@@ -31,10 +27,7 @@ stored_below_after limit None (Some g) c name bytes same stored = absurd same
 stored_below_after limit (Some f) None c name bytes same stored = absurd same
 stored_below_after limit (Some f) (Some g) None name bytes same stored = absurd stored
 
-module _ (before mid after : Outside) (source name bytes : List ℕ) (image : List ℕ) (held : Holds (before.files).files source bytes) (built : (program : Program) × IsServed bytes program × (parts : ImageParts) × Faithful program image parts × (parts.bound ≡ None)) (accepted : (e : BuildError) → ¬ IsRefusedFor bytes e) (same : NoneChanged (before.files).files (mid.files).files) (writes : (mid.files).failed_writes ≡ (before.files).failed_writes) (out : mid.out ≡ before.out) where
-  abbrev made : Built before source
-  made = record { bytes = bytes; held = held; program = built.0; served = built.1; accepted = accepted; image = image; parts = built.2; unbounded = built.4; faithful = built.3 }
-
+module _ (before mid after : Outside) (source name : List ℕ) (made : SourceBuilt before source) (same : NoneChanged (before.files).files (mid.files).files) (writes : (mid.files).failed_writes ≡ (before.files).failed_writes) (out : mid.out ≡ before.out) where
   took : (line : List ℕ) → Took mid.out after.out line → Took before.out after.out line
   took line h = subst (λ o. Took o after.out line) out h
 
@@ -44,8 +37,8 @@ module _ (before mid after : Outside) (source name bytes : List ℕ) (image : Li
   wrote : Rose (mid.files).failed_writes (after.files).failed_writes → Rose (before.files).failed_writes (after.files).failed_writes
   wrote h = subst (λ n. Rose n (after.files).failed_writes) writes h
 
-  pub compile_ends : (s : Status) → StoreEnds name image (between mid after) s → CompileEnds source name (between before after) s
-  compile_ends status.Done h = record { built = made; stored = stored_after _ _ _ _ _ same h.0; line = took _ (rw built.4 h.1) }
+  pub compile_ends : (s : Status) → StoreEnds name made.image (between mid after) s → CompileEnds source name (between before after) s
+  compile_ends status.Done h = record { built = made; stored = stored_after _ _ _ _ _ same h.0; line = took _ h.1 }
   compile_ends status.Usage h = absurd h
   compile_ends status.NoImage h = absurd h
   compile_ends status.NoScript h = absurd h
@@ -56,7 +49,7 @@ module _ (before mid after : Outside) (source name bytes : List ℕ) (image : Li
   compile_ends status.Unput h = record {
     cause = subst (λ o. Rose o.faults (after.out).faults) out h.0;
     line = elim h.1 [
-      | inl p ↦ inl (record { built = made; stored = stored_after _ _ _ _ _ same p.0; line = front _ (rw built.4 p.1) })
+      | inl p ↦ inl (record { built = made; stored = stored_after _ _ _ _ _ same p.0; line = front _ p.1 })
       | inr p ↦ inr (inr (inr (record { built = made; cause = wrote p.0; stored = stored_below_after _ _ _ _ _ _ same p.1; line = front _ p.2 })))
     ];
   }

@@ -7,10 +7,8 @@ use Rattle.pan_command.specs.declared.status.Status.{Status}
 use Rattle.pan_command.specs.declared.status.Status.TheVariants as status
 use Rattle.front_end.specs.Sources.{IsChecked, Unchecked}
 use Rattle.front_end.specs.declared.error.SourceError.{SourceError}
-use Rattle.pan_command.specs.declared.error.BuildError.TheVariants.{Source}
-use Rattle.pan_command.specs.Served.{source_line}
 use Rattle.pan_command.specs.Outside.{Outside, Call, NoFileChanged, Holds, IsPut, IsPutInPart, PutFailed}
-use Rattle.pan_command.specs.Reading.{FileUnread, SourceRead}
+use Rattle.pan_command.specs.Reading.{FileUnread, SourceRead, source_line}
 
 -- the line of a weight
 abbrev pub weight_line : ℕ → List ℕ
@@ -31,7 +29,7 @@ pub record Unpassed (Prints : List ℕ → Type 0) (before : Outside) (source : 
   pub refused : Unchecked bytes reason
   pub only : (e : SourceError) → Unchecked bytes e → e ≡ reason
   pub unchecked : (program : Program) → ¬ IsChecked bytes program
-  pub line : Prints (source_line (Source reason))
+  pub line : Prints (source_line reason)
 
 -- a line could not be put, and what was put is a prefix of the line that was to be put
 pub record CheckUnput (call : Call) (source : List ℕ) : Type 0 where

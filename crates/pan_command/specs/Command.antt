@@ -12,6 +12,8 @@ use Rattle.pan_command.specs.Compile.{CompileEnds}
 use Rattle.pan_command.specs.Check.{CheckEnds}
 use Rattle.pan_command.specs.Run.{RunEnds}
 use Rattle.pan_command.specs.Meaning.{MeaningEnds}
+use Rattle.pan_command.specs.Show.{ShowEnds}
+use Rattle.pan_command.specs.Dis.{DisEnds}
 
 -- the words are lawful words of this action with these options
 abbrev pub AreWordsOf : List (List ℕ) → Action → Options → Type 0
@@ -34,6 +36,8 @@ ActionEnds (action.Compile source image) options call s = CompileEnds source ima
 ActionEnds (action.Check source) options call s = CheckEnds source call s
 ActionEnds (action.Run image script) options call s = RunEnds options image script call s
 ActionEnds (action.Meaning source script) options call s = MeaningEnds options source script call s
+ActionEnds (action.Show source) options call s = ShowEnds options.stage source call s
+ActionEnds (action.Dis image) options call s = DisEnds image call s
 
 -- the words give one order, and its action ended
 pub record OrderEnds (words : List (List ℕ)) (call : Call) (s : Status) : Type 0 where

@@ -1,13 +1,14 @@
 pub mod Status
-pub mod Inner
-pub mod Served
 pub mod Outside
-pub mod Compile
 pub mod Reading
+pub mod Building
 pub mod Playing
 pub mod Check
+pub mod Compile
 pub mod Run
 pub mod Meaning
+pub mod Show
+pub mod Dis
 pub mod Loading
 pub mod Command
 pub mod Promises

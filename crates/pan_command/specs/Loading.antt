@@ -6,6 +6,8 @@ use Rattle.device_script.specs.Script.{Content, script_of_file}
 use Rattle.pan_command.specs.declared.status.Status.{Status}
 use Rattle.pan_command.specs.declared.status.Status.TheVariants as status
 use Rattle.pan_command.specs.Outside.{Call, files_before, NoFileChanged, Holds, IsPut, IsPutInPart, PutFailed}
+use Rattle.pan_driver.specs.declared.built.Built.{Built}
+use Rattle.pan_command.specs.Building.{IsBuilt}
 use Rattle.pan_command.specs.Check.{Unpassed}
 use Rattle.pan_command.specs.Reading.{FileUnread, IsImage, IsSource, ScriptRefused}
 use Rattle.pan_command.specs.Run.{NoImage}
@@ -56,6 +58,15 @@ ProgramCases name call (Err _) = ⊥
 
 abbrev pub ReadsProgram : List ℕ → Call → Result Program Status → Type 0
 ReadsProgram name call r = NoFileChanged call × ProgramCases name call r
+
+-- what is built of a source file, or why there is nothing, as there is no program then
+abbrev pub BuiltCases : List ℕ → Call → Result Built Status → Type 0
+BuiltCases name call (Ok built) =
+    (bytes : List ℕ) × Holds (files_before call) name bytes × IsBuilt bytes built.stages built.image × IsQuiet call
+BuiltCases name call (Err s) = ProgramCases name call (Err s)
+
+abbrev pub ReadsBuilt : List ℕ → Call → Result Built Status → Type 0
+ReadsBuilt name call r = NoFileChanged call × BuiltCases name call r
 
 -- the script of a file, or why there is none
 abbrev pub ScriptCases : List ℕ → Call → Result Content Status → Type 0

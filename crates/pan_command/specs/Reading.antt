@@ -3,6 +3,7 @@ use Rattle.std.specs.Prelude.{◌≡◌, ◌⊎◌, ℕ, List, ◌++◌, Ok, Err
 use Rattle.std.specs.Fmt.{decimal}
 use Rattle.pan_tree.specs.declared.program.Program.{Program}
 use Rattle.front_end.specs.Sources.{IsChecked, Unchecked}
+use Rattle.front_end.specs.Causes.{place_of, cause_of}
 use Rattle.front_end.specs.declared.error.SourceError.{SourceError}
 use Rattle.riscv_isa.specs.Image.{ImageParts, ImageOf}
 use Rattle.device_script.specs.Script.{Content, Refusal, script_of_file}
@@ -21,6 +22,14 @@ cause_text cause.Hex = codes "Hex"
 cause_text cause.Kind = codes "Kind"
 cause_text cause.Range = codes "Range"
 cause_text cause.Twice = codes "Twice"
+
+-- a place, and the name of a cause
+abbrev pub caused : ℕ → List ℕ → List ℕ
+caused place cause = decimal place ++ codes " " ++ cause ++ codes "\n"
+
+-- the line of a refused source
+abbrev pub source_line : SourceError → List ℕ
+source_line e = caused (place_of e) (cause_of e)
 
 -- the line of a refused script
 abbrev pub script_line : Refusal → List ℕ

@@ -2,18 +2,20 @@
 
 ghost use Rattle.std.specs.Prelude.{◌≡◌, ◌⊎◌, List, ℕ, codes};
 ghost use Rattle.command_words.specs.Words.{IsSize};
-ghost use Rattle.command_words.specs.declared.order.Action.TheVariants.{Compile, Check, Run, Meaning};
+ghost use Rattle.command_words.specs.declared.order.Action.TheVariants.{Compile, Check, Run, Meaning, Show, Dis};
 ghost use Rattle.command_words.specs.declared.order.Options.{Options as IsOptions};
 ghost use Rattle.pan_command.specs.declared.status.Status.{Status as IsStatus};
 ghost use Rattle.pan_command.specs.Status.{code};
 ghost use Rattle.pan_command.specs.Outside.{the_call, NoFileChanged, IsPut, WriteFailed, PutFailed};
 ghost use Rattle.pan_command.specs.Command.{AreWordsOf, AreUnlawful, ActionEnds, Ends};
-ghost use Rattle.pan_command.specs.Promises.{CompileKeeps, CheckKeeps, RunKeeps, MeaningKeeps};
+ghost use Rattle.pan_command.specs.Promises.{CompileKeeps, CheckKeeps, RunKeeps, MeaningKeeps, ShowKeeps, DisKeeps};
 
 use crate::checking::check;
 use crate::compiling::compile;
+use crate::listing::list_image;
 use crate::meaning::meaning;
 use crate::running::run;
+use crate::showing::show;
 use crate::status::Status;
 use command_words::{Action, Order, WordsError, read_words};
 use pan_base::{Sink, SinkFault, Text, Workspace, put_all};
@@ -42,6 +44,8 @@ fn perform<W: Workspace, O: Sink>(
         Action::Meaning { source, script } => {
             meaning(alloc, source.as_str(), script.as_str(), options, files, out)
         }
+        Action::Show { source } => show(alloc, source.as_str(), options.stage, files, out),
+        Action::Dis { image } => list_image(alloc, image.as_str(), files, out),
     }
 }
 
@@ -66,16 +70,19 @@ fn act<W: Workspace, O: Sink>(alloc: Global, words: &[Text], files: &mut W, out:
 /// - `check SRC` reads the source SRC and says what its program weighs.
 /// - `run IMG SCRIPT` reads the image IMG and the device script SCRIPT, and runs the one over the other.
 /// - `meaning SRC SCRIPT` does so with the source SRC, as its meaning says.
+/// - `show SRC` reads the source SRC and puts a stage of it: with `--stage parse` the canonical text of its program, and else
+///   the listing of its code.
+/// - `dis IMG` reads the image IMG and puts the listing of its code.
 ///
 /// `command_words::read_words` tells how the words are read, and the options: `--stack` and `--local`, bytes of a run's stack
-/// and of local memory, and `--steps`, the instructions of `run` and the fuel of `meaning`. The status is
+/// and of local memory, `--steps`, the instructions of `run` and the fuel of `meaning`, and `--stage`. The status is
 /// - 0: the image is written, and `bound none` is put; or the program keeps every rule, and `ok WEIGHT` is put; or the run
-///   ended by an exit, and its lines are put;
+///   ended by an exit, and its lines are put; or the text of the stage or the listing is put;
 /// - 2: the words are no action's, and `usage` is put;
 /// - 3: a file could not be read, and `read NAME` is put;
 /// - 4: the source is refused, and `PLACE CAUSE` is put, the place in bytes from 0 on: it has no tokens (`TooLong`,
-///   `BadByte`, `BadNumber`, `OpenComment`), they spell no program (`Syntax`, `TooDeep`), the program breaks a rule (the
-///   rule's name, as `TwoNames`), or it is to be compiled and isn't straight-line (`0 Unsupported`);
+///   `BadByte`, `BadNumber`, `OpenComment`), they spell no program (`Syntax`, `TooDeep`), or the program breaks a rule
+///   (the rule's name, as `TwoNames`);
 /// - 5: the bytes of IMG are no image, and `image CAUSE` is put;
 /// - 6: a line of SCRIPT fits no rule, and `script LINE CAUSE` is put for the first;
 /// - 7: IMG could not be written, and `write IMG` is put, or a line could not be put;
@@ -103,6 +110,10 @@ pub fn panc<W: Workspace, O: Sink>(alloc: Global, words: &[Text], files: &mut W,
         (source : List ℕ) (options : IsOptions) → AreWordsOf words.now (Check source) options → CheckKeeps source call result }
     ensures run { let call = the_call (W.state files.old) (O.state out.old) (W.state files.new) (O.state out.new) in
         (image script : List ℕ) (options : IsOptions) → AreWordsOf words.now (Run image script) options → RunKeeps options image script call result }
+    ensures show { let call = the_call (W.state files.old) (O.state out.old) (W.state files.new) (O.state out.new) in
+        (source : List ℕ) (options : IsOptions) → AreWordsOf words.now (Show source) options → ShowKeeps options.stage source call result }
+    ensures dis { let call = the_call (W.state files.old) (O.state out.old) (W.state files.new) (O.state out.new) in
+        (image : List ℕ) (options : IsOptions) → AreWordsOf words.now (Dis image) options → DisKeeps image call result }
     ensures meaning { let call = the_call (W.state files.old) (O.state out.old) (W.state files.new) (O.state out.new) in
         (source script : List ℕ) (options : IsOptions) → AreWordsOf words.now (Meaning source script) options → MeaningKeeps options source script call result }
 {

@@ -3,10 +3,8 @@
 ghost use Rattle.pan_command.specs.Outside.{the_call};
 ghost use Rattle.pan_command.specs.Compile.{CompileEnds, StoreEnds};
 
-use crate::building::build;
-use crate::error::BuildError;
-use crate::lines::{put_line, put_source_line};
-use crate::loading::read_file;
+use crate::lines::put_line;
+use crate::loading::load_built;
 use crate::status::Status;
 use pan_base::{FileError, Sink, SinkFault, Workspace, put_all};
 use std::alloc::Global;
@@ -44,16 +42,9 @@ pub fn compile<W: Workspace, O: Sink>(
 ) -> Status
     ensures { CompileEnds source.now image.now (the_call (W.state files.old) (O.state out.old) (W.state files.new) (O.state out.new)) result }
 {
-    let bytes = match read_file(alloc, source, files, out) {
-        Ok(bytes) => bytes,
+    let built = match load_built(alloc, source, files, out) {
+        Ok(built) => built,
         Err(status) => return status,
     };
-    match build(alloc, bytes.as_slice()) {
-        Ok(built) => store(alloc, image, built.as_slice(), files, out),
-        Err(BuildError::NoMemory) => Status::NoMemory,
-        Err(error) => match put_source_line(out, error) {
-            Ok(()) => Status::Refused,
-            Err(SinkFault) => Status::Unput,
-        },
-    }
+    store(alloc, image, built.image(), files, out)
 }

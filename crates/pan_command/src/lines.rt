@@ -1,15 +1,14 @@
 //! The lines of refusals.
 
-ghost use Rattle.std.specs.Prelude.{◌≡◌, ◌++◌, codes, ◌≢◌};
+ghost use Rattle.std.specs.Prelude.{◌≡◌, ◌++◌, codes};
 ghost use Rattle.pan_base.specs.Causes.{HasCause};
 ghost use Rattle.pan_base.specs.Sinks.{PutsAll};
 ghost use Rattle.pan_command.specs.Check.{weight_line};
-ghost use Rattle.pan_command.specs.Reading.{cause_text, script_line};
+ghost use Rattle.pan_command.specs.Reading.{cause_text, script_line, source_line};
 ghost use Rattle.pan_command.specs.Run.{field_text, image_line};
-ghost use Rattle.pan_command.specs.Served.{caused, source_line};
 
-use crate::error::BuildError;
 use device_script::Cause;
+use front_end::SourceError;
 use image_file::{FieldName, ImageError};
 use itoa::Buffer;
 use pan_base::{Sink, SinkFault, put_all, put_each};
@@ -86,26 +85,17 @@ pub fn put_script_line<O: Sink>(out: &mut O, line: u64, cause: Cause) -> Result<
     )
 }
 
-/// The place and the name of what is wrong with a source.
-fn place_and_cause(error: BuildError) -> (u32, &'static str)
-    ensures { caused result.0 result.1.now ≡ source_line error }
-{
-    match error {
-        BuildError::Source(error) => (error.place(), error.cause()),
-        BuildError::Unsupported => (0, "Unsupported"),
-        BuildError::NoMemory => (0, "NoMemory"),
-    }
-}
-
 /// Puts the line of a refused source.
-pub fn put_source_line<O: Sink>(out: &mut O, error: BuildError) -> Result<(), SinkFault>
+pub fn put_source_line<O: Sink>(out: &mut O, error: SourceError) -> Result<(), SinkFault>
     ensures took { PutsAll (O.state out.old) (O.state out.new) result (source_line error) }
     ensures cause { HasCause (O.state out.old).faults (O.state out.new).faults result }
 {
-    let (place, cause) = place_and_cause(error);
     let mut buffer = Buffer::new();
-    let number = buffer.format(place);
-    put_each(out, &[number.as_bytes(), b" ", cause.as_bytes(), b"\n"])
+    let number = buffer.format(error.place());
+    put_each(
+        out,
+        &[number.as_bytes(), b" ", error.cause().as_bytes(), b"\n"],
+    )
 }
 
 /// Puts the line of a weight.

@@ -2,15 +2,15 @@
 
 ghost use Rattle.std.specs.Prelude.{◌≡◌};
 ghost use Rattle.pan_command.specs.Outside.{the_call};
-ghost use Rattle.pan_command.specs.Loading.{ReadsFile, ReadsImage, ReadsProgram, ReadsScript};
+ghost use Rattle.pan_command.specs.Loading.{ReadsFile, ReadsImage, ReadsProgram, ReadsBuilt, ReadsScript};
 
-use crate::error::BuildError;
 use crate::lines::{put_image_line, put_line, put_script_line, put_source_line};
 use crate::status::Status;
 use device_script::{Script, ScriptError, read_script};
-use front_end::{SourceError, read_program};
+use front_end::{SourceError, one_reading, read_program};
 use image_file::{Image, ImageError, read_image};
 use pan_base::{Blob, FileError, Sink, SinkFault, Workspace};
+use pan_driver::{BuildError, Built, build};
 use pan_shapes::Checked;
 use std::alloc::Global;
 
@@ -72,7 +72,31 @@ pub fn load_program<W: Workspace, O: Sink>(
     match read_program(alloc, bytes.as_slice()) {
         Ok(program) => Ok(program),
         Err(SourceError::NoMemory) => Err(Status::NoMemory),
-        Err(error) => match put_source_line(out, BuildError::Source(error)) {
+        Err(error) => match put_source_line(out, error) {
+            Ok(()) => Err(Status::Refused),
+            Err(SinkFault) => Err(Status::Unput),
+        },
+    }
+}
+
+/// What is built of a source file: its image and all stages. Where it is refused, the line that says why is put.
+pub fn load_built<W: Workspace, O: Sink>(
+    alloc: Global,
+    name: &str,
+    files: &mut W,
+    out: &mut O,
+) -> Result<Built, Status>
+    ensures { ReadsBuilt name.now (the_call (W.state files.old) (O.state out.old) (W.state files.new) (O.state out.new)) result }
+{
+    one_reading();
+    let bytes = match read_file(alloc, name, files, out) {
+        Ok(bytes) => bytes,
+        Err(status) => return Err(status),
+    };
+    match build(alloc, bytes.as_slice()) {
+        Ok(built) => Ok(built),
+        Err(BuildError::NoMemory) => Err(Status::NoMemory),
+        Err(error) => match put_source_line(out, error.source_error()) {
             Ok(()) => Err(Status::Refused),
             Err(SinkFault) => Err(Status::Unput),
         },

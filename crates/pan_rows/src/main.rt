@@ -20,7 +20,7 @@ const FILES: [&str; 6] = [
     "refused.txt",
     "scripts.txt",
     "images.txt",
-    "straight.txt",
+    "code.txt",
 ];
 
 /// Adds what comes of the rows, up to the first line that is none of a row, if there is one.

@@ -49,3 +49,14 @@ pub fn add_put(alloc: Global, report: &mut Vec<u8>, put: &[u8]) -> Result<(), Al
     }
     Ok(())
 }
+
+/// How many of the lines have the word between blanks.
+pub fn lines_with(word: &[u8], put: &[u8]) -> u64 {
+    let mut found: u64 = 0;
+    for line in put.split(|byte| *byte == b'\n') {
+        if line.split(|byte| *byte == b' ').any(|part| part == word) {
+            found = found.saturating_add(1);
+        }
+    }
+    found
+}

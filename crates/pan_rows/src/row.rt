@@ -1,6 +1,6 @@
 //! A row: its files, the calls and puts that fail, and its runs.
 
-use crate::report::{add_line, add_put};
+use crate::report::{add_line, add_put, lines_with};
 use crate::text::{add_for_each, add_hex, add_times, number, split_word, words_of};
 use crate::trouble::Trouble;
 use pan_base::{Blob, Failing, FileError, List, MemFiles, MemSink, Text, Workspace};
@@ -65,6 +65,7 @@ impl Row {
             "put" => self.failing_put = Some(number(rest)?),
             "room" => self.room = number(rest)? as usize,
             "$" => self.run(alloc, rest, report)?,
+            "count" => self.count(alloc, rest, report)?,
             "show" => self.show(alloc, rest, report)?,
             _ => return Err(Trouble::Line),
         }
@@ -136,8 +137,8 @@ impl Row {
         Ok(MemFiles::new(alloc, given, failing)?)
     }
 
-    /// Runs the words.
-    fn run(&mut self, alloc: Global, line: &str, report: &mut Vec<u8>) -> Result<(), Trouble> {
+    /// Runs the words, and answers the status and what was put.
+    fn call(&mut self, alloc: Global, line: &str) -> Result<(u8, MemSink), Trouble> {
         let mut files = self.opened(alloc)?;
         let mut failing = List::new(alloc);
         if let Some(put) = self.failing_put {
@@ -147,10 +148,26 @@ impl Row {
         let words = words_of(alloc, line)?;
         let status = panc(alloc, words.as_slice(), &mut files, &mut out);
         self.files = Some(files);
+        Ok((status, out))
+    }
+
+    /// Adds the words, the status, and the lines that were put.
+    fn run(&mut self, alloc: Global, line: &str, report: &mut Vec<u8>) -> Result<(), Trouble> {
+        let (status, out) = self.call(alloc, line)?;
         let status = format!(in alloc; "{status}")?;
         let line = if line.is_empty() { "no words" } else { line };
         add_line(report, &[line, ": status ", status.as_str()])?;
         add_put(alloc, report, out.bytes())?;
+        Ok(())
+    }
+
+    /// Adds the words, the status, and how many lines that were put have the first word.
+    fn count(&mut self, alloc: Global, rest: &str, report: &mut Vec<u8>) -> Result<(), Trouble> {
+        let (word, line) = split_word(rest);
+        let (status, out) = self.call(alloc, line)?;
+        let found = lines_with(word.as_bytes(), out.bytes());
+        let ended = format!(in alloc; ": status {status}, {found} lines with ")?;
+        add_line(report, &[line, ended.as_str(), word])?;
         Ok(())
     }
 

@@ -2,7 +2,7 @@
 
 ghost use Rattle.std.specs.Prelude.{◌≡◌, map, IfOk};
 ghost use Rattle.std.specs.Option.{option_copied};
-ghost use Rattle.pan_tree.specs.Check.{foreign_names, function_of, result_of};
+ghost use Rattle.pan_tree.specs.Check.{foreign_names, function_of, result_of, exception_of};
 ghost use Rattle.pan_tree.specs.Meaning.{function_index, exception_index, foreign_index};
 ghost use Rattle.source_resolver.specs.Numbering.{numbered};
 
@@ -119,7 +119,7 @@ impl<'p> Directory<'p> {
     }
 
     /// The function of this name.
-    fn named(&self, name: &[u8]) -> Option<&'p Function>
+    pub fn function_named(&self, name: &[u8]) -> Option<&'p Function>
         ensures { option_copied result ≡ function_of name.now self.now }
     {
         match self.functions.find(name) {
@@ -128,11 +128,21 @@ impl<'p> Directory<'p> {
         }
     }
 
+    /// The exception of this name.
+    pub fn exception_named(&self, name: &[u8]) -> Option<&'p Exception>
+        ensures { option_copied result ≡ exception_of name.now self.now }
+    {
+        match self.exceptions.find(name) {
+            Some(i) => self.program.exceptions.as_slice().get(i),
+            None => None,
+        }
+    }
+
     /// The shape of the result of the function of this name, or a word where there is none.
     pub fn result(&self, alloc: Global, name: &[u8]) -> Result<Shape, NoMemory>
         ensures { IfOk result (λ s. s ≡ result_of (function_of name.now self.now)) }
     {
-        match self.named(name) {
+        match self.function_named(name) {
             Some(function) => Ok(copy_shape(alloc, &function.result)?),
             None => Ok(Shape::Word),
         }

@@ -10,6 +10,8 @@ mod resolving_exprs;
 mod resolving_stmts;
 mod shared;
 
+pub use directory::Directory;
+pub use places::Places;
 pub use resolved::{
     Block, Call, CallOf, Expr, Function, Handler, HandlerOf, Program, Stmt, Target,
 };

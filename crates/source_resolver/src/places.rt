@@ -1,8 +1,8 @@
 //! The variables that can be named at a place of a function, with their places.
 
-ghost use Rattle.std.specs.Prelude.{◌≡◌, [], ◌∷◌, drop, OnOk};
+ghost use Rattle.std.specs.Prelude.{◌≡◌, [], ◌∷◌, drop, OnOk, OnErr};
 ghost use Rattle.pan_tree.specs.Scopes.{innermost};
-ghost use Rattle.source_resolver.specs.Resolving.{with_variable};
+ghost use Rattle.source_resolver.specs.Resolving.{count, with_variable};
 
 use crate::numbers::Numbers;
 use pan_base::NoMemory;
@@ -42,9 +42,17 @@ impl<'p> Places<'p> {
         }
     }
 
-    /// Opens a block with no variable yet.
+    /// How many variables there are: the place of the next.
+    pub fn total(&self) -> usize
+        ensures { result ≡ count self.now }
+    {
+        self.total
+    }
+
+    /// Opens a block with no variable yet. Without memory all stays as it was.
     pub fn enter(&mut self) -> Result<(), NoMemory>
-        ensures { OnOk result (self.new ≡ [] ∷ self.old) }
+        ensures opened { OnOk result (self.new ≡ [] ∷ self.old) }
+        ensures kept { OnErr result (self.new ≡ self.old) }
     {
         self.blocks.push(Numbers::new(self.alloc))?;
         Ok(())
@@ -73,9 +81,10 @@ impl<'p> Places<'p> {
         None
     }
 
-    /// Declares a variable in the innermost block, where there is one: it gets the next place.
+    /// Declares a variable in the innermost block, where there is one: it gets the next place. Without memory all stays as it was.
     pub fn declare(&mut self, name: &'p [u8]) -> Result<(), NoMemory>
-        ensures { OnOk result (self.new ≡ with_variable name.now self.old) }
+        ensures declared { OnOk result (self.new ≡ with_variable name.now self.old) }
+        ensures kept { OnErr result (self.new ≡ self.old) }
     {
         let Some(next) = self.total.checked_add(1) else {
             return Err(NoMemory);

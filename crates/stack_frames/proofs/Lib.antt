@@ -22,4 +22,3 @@ pub mod Shapes
 pub mod Kept
 pub mod Rules
 pub mod Numbers
-pub mod Handled

@@ -2,9 +2,9 @@
 use Rattle.std.proofs.Common.{◌≡◌, ℕ, zero, suc, ◌+◌, ◌*◌, ◌/◌, ◌%◌, ◌^◌, ◌<◌, ◌≤◌, List, [], ◌∷◌, ◌++◌, map, length, Some, Bool, true, false, refl, sym, ap, ◌∙◌, subst, arith}
 use Rattle.std.specs.Prelude.{nat_eq, nat_lt, if◌then◌else◌}
 use Rattle.std.proofs.lemmas.Bool.Decides.{nat_tests}
-use Rattle.pan_base.specs.Results.{plus}
+use Rattle.pan_base.specs.Results.{plus, upper, low_half}
 use Rattle.pan_base.specs.Words.{IsWord}
-use Rattle.pan_base.specs.declared.operators.IOp.TheVariants.{Addi}
+use Rattle.pan_base.specs.declared.operators.IOp.TheVariants.{Addi, Addiw}
 use Rattle.pan_base.specs.declared.operators.ShiftOp.TheVariants.{Slli}
 use Rattle.pan_base.specs.declared.operators.UOp.TheVariants.{Lui}
 use Rattle.pan_control.specs.World.{tolled}
@@ -19,9 +19,9 @@ use Rattle.stack_lang.specs.Meaning.{World, Does, Callee, ran, run_layer, run}
 use Rattle.stack_lang.specs.declared.syntax.Stmt.{Stmt, Stmt-F, roll-Stmt, map-Stmt, fold-Stmt, fold-roll-Stmt}
 use Rattle.stack_lang.specs.declared.syntax.Stmt.TheVariants as stack
 use Rattle.stack_lang.specs.declared.syntax.Stmt.TheOpen as open_stack
-use Rattle.stack_frames.specs.Constants.{low, high, constant_in, constant}
+use Rattle.stack_frames.specs.Constants.{low, high, with_low, constant_in, constant}
 use Rattle.stack_frames.proofs.Masked.{IsUsable, reg_written, reg_twice}
-use Rattle.stack_frames.proofs.Words.{magnitude, high_is_word, high_and_low, high_smaller, fits_upper, upper_of, low_alone}
+use Rattle.stack_frames.proofs.Words.{magnitude, high_is_word, high_and_low, high_smaller, half_near, upper_and_low, upper_alone, high_alone, low_alone}
 use Rattle.riscv_isa.proofs.Registers.{zero_is}
 
 module _ (size d : ℕ) (callee : Callee) where
@@ -125,13 +125,19 @@ module _ (size d : ℕ) (callee : Callee) where
         ran_one 1 2 (stack.Plain (instr.I Addi r 0 (low n))) v (with_register v r n) (λ v'. v' ≡ with_register v r n) (omega arith)
         (plain_writes (instr.I Addi r 0 (low n)) r n v (ap (λ m. Runs (next (with_reg v.seen r m))) (ap (λ a. plus a (low n)) (zero_is v.seen) ∙ low_alone n small e))) refl
 
-    upper_first : (n : ℕ) (v : Frame) → IsWord n → length (v.seen).registers ≡ 32 → (high n + 2 ^ 19) % 2 ^ 64 < 2 ^ 20 → Sets 2 (instr.U Lui r (high n % 2 ^ 20) ∷ instr.I Addi r r (low n) ∷ []) r n v
-    upper_first n v small count fits =
-        let q = high n * 2 ^ 12 % 2 ^ 64 in
-        ran_within 2 2 _ v (λ v'. v' ≡ with_register v r (plus q (low n))) (λ v'. v' ≡ with_register v r n) (omega arith) (λ v' e. e ∙ ap (λ m. with_register v r m) (high_and_low n small))
-        (added 1 (instr.U Lui r (high n % 2 ^ 20) ∷ []) q (low n) v count
-        (ran_one 1 1 (stack.Plain (instr.U Lui r (high n % 2 ^ 20))) v (with_register v r q) (λ v'. v' ≡ with_register v r q) (omega arith)
-        (plain_writes (instr.U Lui r (high n % 2 ^ 20)) r q v (ap (λ m. Runs (next (with_reg v.seen r m))) (upper_of (high n) (high_is_word n small) fits))) refl))
+    upper_first : (n : ℕ) (v : Frame) → IsWord n → length (v.seen).registers ≡ 32 → (n + 2 ^ 31) % 2 ^ 64 < 2 ^ 32 → Sets 2 (instr.U Lui r (high n % 2 ^ 20) ∷ with_low Addiw r n) r n v
+    upper_first n v small count half = by (nat_eq (n % 4096) 0) refl
+      where
+        by : (b : Bool) → nat_eq (n % 4096) 0 ≡ b → Sets 2 (instr.U Lui r (high n % 2 ^ 20) ∷ (if b then [] else instr.I Addiw r r (low n) ∷ [])) r n v
+        by true e =
+            let none : n % 4096 ≡ 0 = grind (arith, nat_tests) in
+            ran_one 1 2 (stack.Plain (instr.U Lui r (high n % 2 ^ 20))) v (with_register v r n) (λ v'. v' ≡ with_register v r n) (omega arith)
+            (plain_writes (instr.U Lui r (high n % 2 ^ 20)) r n v (ap (λ m. Runs (next (with_reg v.seen r m))) (upper_alone n small half none))) refl
+        by false e =
+            let q = upper (high n % 2 ^ 20) in
+            then_one 1 (instr.U Lui r (high n % 2 ^ 20) ∷ []) (instr.I Addiw r r (low n)) q n v count
+            (ran_one 1 1 (stack.Plain (instr.U Lui r (high n % 2 ^ 20))) v (with_register v r q) (λ v'. v' ≡ with_register v r q) (omega arith) (plain_writes (instr.U Lui r (high n % 2 ^ 20)) r q v refl) refl)
+            (λ t e. ap (λ a. Runs (next (with_reg t r (low_half (plus a (low n)))))) e ∙ ap (λ m. Runs (next (with_reg t r m))) (upper_and_low n small half))
 
     -- how large a word may be for so many constants within one another
     abbrev bound : ℕ → ℕ
@@ -147,36 +153,44 @@ module _ (size d : ℕ) (callee : Callee) where
     smaller (suc (suc (suc k))) m q l a b = absurd (omega (arith, l))
 
     pub constant_sets : (k n : ℕ) (v : Frame) → k ≤ 3 → IsWord n → magnitude n < bound k → length (v.seen).registers ≡ 32 → Sets (2 + 2 * k) (constant_in k r n) r n v
-    constant_sets zero n v l small m count = choose_zero (nat_eq (high n) 0) (nat_lt ((high n + 2 ^ 19) % 2 ^ 64) (2 ^ 20)) refl refl
+    constant_sets zero n v l small m count = choose_zero (nat_eq (high n) 0) (nat_lt ((n + 2 ^ 31) % 2 ^ 64) (2 ^ 32)) refl refl
       where
-        fits : (high n + 2 ^ 19) % 2 ^ 64 < 2 ^ 20
-        fits = let h = high_smaller n small in fits_upper (high n) (high_is_word n small) (omega (arith, h, m))
+        fits : (n + 2 ^ 31) % 2 ^ 64 < 2 ^ 32
+        fits = half_near n small m
 
-        choose_zero : (a b : Bool) → nat_eq (high n) 0 ≡ a → nat_lt ((high n + 2 ^ 19) % 2 ^ 64) (2 ^ 20) ≡ b
-            → Sets 2 (if a then instr.I Addi r 0 (low n) ∷ [] else (if b then instr.U Lui r (high n % 2 ^ 20) ∷ instr.I Addi r r (low n) ∷ [] else [])) r n v
+        choose_zero : (a b : Bool) → nat_eq (high n) 0 ≡ a → nat_lt ((n + 2 ^ 31) % 2 ^ 64) (2 ^ 32) ≡ b
+            → Sets 2 (if a then instr.I Addi r 0 (low n) ∷ [] else (if b then instr.U Lui r (high n % 2 ^ 20) ∷ with_low Addiw r n else [])) r n v
         choose_zero true b e f = short n v small (grind (arith, nat_tests))
         choose_zero false true e f = upper_first n v small count fits
         choose_zero false false e f = absurd (let h = fits in grind (arith, nat_tests))
     constant_sets (suc k) n v l small m count =
         by (constant_sets k (high n) v (omega (arith, l)) (high_is_word n small) (smaller k (magnitude n) (magnitude (high n)) (omega (arith, l)) m (high_smaller n small)) count)
-        (nat_eq (high n) 0) (nat_lt ((high n + 2 ^ 19) % 2 ^ 64) (2 ^ 20)) refl refl
+        (nat_eq (high n) 0) (nat_lt ((n + 2 ^ 31) % 2 ^ 64) (2 ^ 32)) refl refl
       where
         shifted : Sets (2 + 2 * k) (constant_in k r (high n)) r (high n) v → Ran (2 + 2 * k + 1) (map stack.Plain (constant_in k r (high n)) ++ stack.Plain (instr.Sh Slli r r 12) ∷ []) v (λ v'. v' ≡ with_register v r (high n * 2 ^ 12 % 2 ^ 64))
         shifted inner = then_one (2 + 2 * k) (constant_in k r (high n)) (instr.Sh Slli r r 12) (high n) (high n * 2 ^ 12 % 2 ^ 64) v count inner (λ t e. ap (λ a. Runs (next (with_reg t r (a * 2 ^ 12 % 2 ^ 64)))) e)
 
-        long : Sets (2 + 2 * k) (constant_in k r (high n)) r (high n) v → Sets (2 + 2 * suc k) (constant_in k r (high n) ++ instr.Sh Slli r r 12 ∷ instr.I Addi r r (low n) ∷ []) r n v
-        long inner =
-            ran_within (2 + 2 * k + 1 + 1) (2 + 2 * suc k) _ v (λ v'. v' ≡ with_register v r (plus (high n * 2 ^ 12 % 2 ^ 64) (low n))) (λ v'. v' ≡ with_register v r n) (omega arith) (λ v' e. e ∙ ap (λ m. with_register v r m) (high_and_low n small))
-            (subst (λ ss. Ran (2 + 2 * k + 1 + 1) ss v (λ v'. v' ≡ with_register v r (plus (high n * 2 ^ 12 % 2 ^ 64) (low n)))) (sym (code_is (constant_in k r (high n))))
-            (added (2 + 2 * k + 1) (constant_in k r (high n) ++ instr.Sh Slli r r 12 ∷ []) (high n * 2 ^ 12 % 2 ^ 64) (low n) v count
-            (subst (λ ss. Ran (2 + 2 * k + 1) ss v (λ v'. v' ≡ with_register v r (high n * 2 ^ 12 % 2 ^ 64))) (sym (plain_append (constant_in k r (high n)) (instr.Sh Slli r r 12 ∷ []))) (shifted inner))))
+        long : Sets (2 + 2 * k) (constant_in k r (high n)) r (high n) v → Sets (2 + 2 * suc k) (constant_in k r (high n) ++ instr.Sh Slli r r 12 ∷ with_low Addi r n) r n v
+        long inner = by_low (nat_eq (n % 4096) 0) refl
           where
             code_is : (xs : List Instr) → map stack.Plain (xs ++ instr.Sh Slli r r 12 ∷ instr.I Addi r r (low n) ∷ []) ≡ map stack.Plain (xs ++ instr.Sh Slli r r 12 ∷ []) ++ stack.Plain (instr.I Addi r r (low n)) ∷ []
             code_is [] = refl
             code_is (x ∷ xs) = ap (λ ss. stack.Plain x ∷ ss) (code_is xs)
 
-        by : Sets (2 + 2 * k) (constant_in k r (high n)) r (high n) v → (a b : Bool) → nat_eq (high n) 0 ≡ a → nat_lt ((high n + 2 ^ 19) % 2 ^ 64) (2 ^ 20) ≡ b
-            → Sets (2 + 2 * suc k) (if a then instr.I Addi r 0 (low n) ∷ [] else (if b then instr.U Lui r (high n % 2 ^ 20) ∷ instr.I Addi r r (low n) ∷ [] else constant_in k r (high n) ++ instr.Sh Slli r r 12 ∷ instr.I Addi r r (low n) ∷ [])) r n v
+            high_there : Ran (2 + 2 * k + 1) (map stack.Plain (constant_in k r (high n) ++ instr.Sh Slli r r 12 ∷ [])) v (λ v'. v' ≡ with_register v r (high n * 2 ^ 12 % 2 ^ 64))
+            high_there = subst (λ ss. Ran (2 + 2 * k + 1) ss v (λ v'. v' ≡ with_register v r (high n * 2 ^ 12 % 2 ^ 64))) (sym (plain_append (constant_in k r (high n)) (instr.Sh Slli r r 12 ∷ []))) (shifted inner)
+
+            by_low : (b : Bool) → nat_eq (n % 4096) 0 ≡ b → Sets (2 + 2 * suc k) (constant_in k r (high n) ++ instr.Sh Slli r r 12 ∷ (if b then [] else instr.I Addi r r (low n) ∷ [])) r n v
+            by_low true e =
+                let none : n % 4096 ≡ 0 = grind (arith, nat_tests) in
+                ran_within (2 + 2 * k + 1) (2 + 2 * suc k) _ v (λ v'. v' ≡ with_register v r (high n * 2 ^ 12 % 2 ^ 64)) (λ v'. v' ≡ with_register v r n) (omega arith) (λ v' e. e ∙ ap (λ m. with_register v r m) (high_alone n small none)) high_there
+            by_low false e =
+                ran_within (2 + 2 * k + 1 + 1) (2 + 2 * suc k) _ v (λ v'. v' ≡ with_register v r (plus (high n * 2 ^ 12 % 2 ^ 64) (low n))) (λ v'. v' ≡ with_register v r n) (omega arith) (λ v' e. e ∙ ap (λ m. with_register v r m) (high_and_low n small))
+                (subst (λ ss. Ran (2 + 2 * k + 1 + 1) ss v (λ v'. v' ≡ with_register v r (plus (high n * 2 ^ 12 % 2 ^ 64) (low n)))) (sym (code_is (constant_in k r (high n))))
+                (added (2 + 2 * k + 1) (constant_in k r (high n) ++ instr.Sh Slli r r 12 ∷ []) (high n * 2 ^ 12 % 2 ^ 64) (low n) v count high_there))
+
+        by : Sets (2 + 2 * k) (constant_in k r (high n)) r (high n) v → (a b : Bool) → nat_eq (high n) 0 ≡ a → nat_lt ((n + 2 ^ 31) % 2 ^ 64) (2 ^ 32) ≡ b
+            → Sets (2 + 2 * suc k) (if a then instr.I Addi r 0 (low n) ∷ [] else (if b then instr.U Lui r (high n % 2 ^ 20) ∷ with_low Addiw r n else constant_in k r (high n) ++ instr.Sh Slli r r 12 ∷ with_low Addi r n)) r n v
         by inner true b e f = ran_within 2 (2 + 2 * suc k) _ v _ _ (omega arith) (λ v' p. p) (short n v small (grind (arith, nat_tests)))
         by inner false true e f = ran_within 2 (2 + 2 * suc k) _ v _ _ (omega arith) (λ v' p. p) (upper_first n v small count (grind (arith, nat_tests)))
         by inner false false e f = long inner

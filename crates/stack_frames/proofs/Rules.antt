@@ -26,7 +26,7 @@ use Rattle.word_lang.specs.declared.syntax.Stmt.TheOpen as tree
 use Rattle.word_lang.proofs.Equations.{handler_as}
 use Rattle.stack_frames.specs.Frames.{handler_variables, passes, fetches, framed_handler, framed_layer, framed}
 use Rattle.stack_frames.proofs.Statements.{flow_roll, framed_roll}
-use Rattle.stack_frames.specs.Constants.{low, high, constant_by, constant_in}
+use Rattle.stack_frames.specs.Constants.{high, with_low, constant_by, constant_in}
 
 -- ---- constants
 
@@ -34,9 +34,9 @@ pub plain_append : (xs ys : List Instr) → map s.Plain (xs ++ ys) ≡ map s.Pla
 plain_append [] ys = refl
 plain_append (x ∷ xs) ys = ap (λ zs. s.Plain x ∷ zs) (plain_append xs ys)
 
-pub constant_next : (k r n : ℕ) → k ≢ 0 → constant_in k r n ≡ constant_by (constant_in (k - 1) r (high n) ++ instr.Sh Slli r r 12 ∷ instr.I Addi r r (low n) ∷ []) r n
+pub constant_next : (k r n : ℕ) → k ≢ 0 → constant_in k r n ≡ constant_by (constant_in (k - 1) r (high n) ++ instr.Sh Slli r r 12 ∷ with_low Addi r n) r n
 constant_next zero r n ne = absurd (ne refl)
-constant_next (suc k) r n ne = ap (λ k. constant_by (constant_in k r (high n) ++ instr.Sh Slli r r 12 ∷ instr.I Addi r r (low n) ∷ []) r n) (let e : k ≡ suc k - 1 = omega arith in e)
+constant_next (suc k) r n ne = ap (λ k. constant_by (constant_in k r (high n) ++ instr.Sh Slli r r 12 ∷ with_low Addi r n) r n) (let e : k ≡ suc k - 1 = omega arith in e)
 
 pub ruleset constant_rules = (append_assoc, nat_tests, plain_append, constant_next)
 

@@ -9,8 +9,9 @@ use Rattle.word_lang.specs.Homes.{first_slot, is_home, IsOverHomes}
 use Rattle.word_lang.specs.Needs.{frame_need}
 use Rattle.word_lang.specs.Text.{flow_of_function}
 use Rattle.word_lang.specs.declared.syntax.WordFun.{WordFun}
-use Rattle.stack_lang.specs.Frames.{has_handlers}
-use Rattle.stack_frames.specs.Frames.{slots_of, below, slots, slot_in, body_of, front_of, frame_bytes}
+use Rattle.stack_lang.specs.Frames.{front}
+use Rattle.stack_lang.proofs.WordsBefore.{front_small}
+use Rattle.stack_frames.specs.Frames.{slots_of, below, slots, slot_in, body_of, frame_bytes}
 use Rattle.stack_frames.proofs.Homes.{IsNumbered}
 
 -- ---- the slots among homes
@@ -123,27 +124,26 @@ is_numbered f over =
     same x y hx hy e false false p q = grind (arith, nat_tests)
 
 -- the slot of a home lies in the frame, behind the words before the slots
-pub slot_inside : (f : WordFun) (x : ℕ) → has (variables (flow_of_function f)) x ≡ true → nat_lt x first_slot ≡ false → 8 * (front_of (has_handlers (body_of f)) + slot_in f x + 1) ≤ frame_bytes f
-slot_inside f x h l = inside (front_of (has_handlers (body_of f))) (slot_in f x) (length (slots f)) (below_within x (slots f) (slot_among x (variables (flow_of_function f)) l h))
+pub slot_inside : (f : WordFun) (x : ℕ) → has (variables (flow_of_function f)) x ≡ true → nat_lt x first_slot ≡ false → 8 * (front (body_of f) + slot_in f x + 1) ≤ frame_bytes f
+slot_inside f x h l = inside (front (body_of f)) (slot_in f x) (length (slots f)) (below_within x (slots f) (slot_among x (variables (flow_of_function f)) l h))
   where
     inside : (m k n : ℕ) → k < n → 8 * (m + k + 1) ≤ 16 * ((m + n + 1) / 2)
     inside m k n l = omega (arith, l)
 
 pub frame_whole : (f : WordFun) → frame_bytes f % 16 ≡ 0
-frame_whole f = whole (front_of (has_handlers (body_of f))) (length (slots f))
+frame_whole f = whole (front (body_of f)) (length (slots f))
   where
     whole : (m n : ℕ) → 16 * ((m + n + 1) / 2) % 16 ≡ 0
     whole m n = omega arith
 
-pub frame_wide : (f : WordFun) → 8 * front_of (has_handlers (body_of f)) ≤ frame_bytes f
-frame_wide f = wide (front_of (has_handlers (body_of f))) (length (slots f))
+pub frame_wide : (f : WordFun) → 8 * front (body_of f) ≤ frame_bytes f
+frame_wide f = wide (front (body_of f)) (length (slots f))
   where
     wide : (m n : ℕ) → 8 * m ≤ 16 * ((m + n + 1) / 2)
     wide m n = omega arith
 
 pub frame_fits : (f : WordFun) → frame_bytes f ≤ frame_need f
-frame_fits f = fits (has_handlers (body_of f)) (length (slots f)) (different (variables (flow_of_function f))) (few_slots (variables (flow_of_function f)))
+frame_fits f = fits (front (body_of f)) (front_small (body_of f)) (length (slots f)) (different (variables (flow_of_function f))) (few_slots (variables (flow_of_function f)))
   where
-    fits : (b : Bool) (n m : ℕ) → n ≤ m → 16 * ((front_of b + n + 1) / 2) ≤ 8 * (m + 4)
-    fits true n m l = omega (arith, l)
-    fits false n m l = omega (arith, l)
+    fits : (k : ℕ) → k ≤ 3 → (n m : ℕ) → n ≤ m → 16 * ((k + n + 1) / 2) ≤ 8 * (m + 4)
+    fits k few n m l = omega (arith, few, l)

@@ -4,7 +4,8 @@ use Rattle.std.specs.Prelude.{◌≤ℤ◌, nat_lt, nat_eq, flat_map, if◌then�
 use Rattle.std.specs.List.{All}
 use Rattle.std.proofs.lemmas.Bool.Decides.{nat_tests}
 use Rattle.std.proofs.lemmas.Int.{ints}
-use Rattle.pan_base.specs.declared.operators.IOp.TheVariants.{Addi}
+use Rattle.pan_base.specs.declared.operators.IOp.{IOp}
+use Rattle.pan_base.specs.declared.operators.IOp.TheVariants.{Addi, Addiw}
 use Rattle.pan_base.specs.declared.operators.LOp.TheVariants.{Ld}
 use Rattle.pan_base.specs.declared.operators.SOp.TheVariants.{Sd}
 use Rattle.pan_base.specs.declared.operators.ShiftOp.TheVariants.{Slli}
@@ -22,7 +23,7 @@ use Rattle.stack_lang.specs.WellFormed.{Scope, IsRight}
 use Rattle.stack_lang.specs.declared.syntax.Stmt.{Stmt, Stmt-F, roll-Stmt, map-Stmt, fold-Stmt, fold-roll-Stmt}
 use Rattle.stack_lang.specs.declared.syntax.Stmt.TheVariants as s
 use Rattle.stack_lang.specs.declared.syntax.Stmt.TheOpen as o_s
-use Rattle.stack_frames.specs.Constants.{low, high, constant_by, constant_in, constant}
+use Rattle.stack_frames.specs.Constants.{low, high, with_low, constant_by, constant_in, constant}
 use Rattle.stack_frames.specs.Frames.{register_of, gets, puts, load, save, distance, pass, fetch, passes, fetches}
 use Rattle.stack_frames.proofs.Masked.{IsUsable, seen}
 use Rattle.stack_frames.proofs.Flows.{has_first, has_rest}
@@ -146,8 +147,8 @@ module _ (scope : Scope) where
     plain_append [] ys = refl
     plain_append (x ∷ xs) ys = ap (λ zs. s.Plain x ∷ zs) (plain_append xs ys)
 
-    addi_row : (q n : ℕ) → (q ≡ 0) ⊎ (q ≡ r) → Row scope [] 1 (s.Plain (instr.I Addi r q (low n)) ∷ [])
-    addi_row q n e = row_plain (instr.I Addi r q (low n)) ((u.below, from_small e, (low_in_range n).0, (low_in_range n).1), (writable r u, from_seen e))
+    low_row : (op : IOp) (q n : ℕ) → (q ≡ 0) ⊎ (q ≡ r) → Row scope [] 1 (s.Plain (instr.I op r q (low n)) ∷ [])
+    low_row op q n e = row_plain (instr.I op r q (low n)) ((u.below, from_small e, (low_in_range n).0, (low_in_range n).1), (writable r u, from_seen e))
       where
         from_small : (q ≡ 0) ⊎ (q ≡ r) → q < 32
         from_small (inl e) = omega (arith, e)
@@ -157,27 +158,34 @@ module _ (scope : Scope) where
         from_seen (inl e) = (λ k. omega (arith, e, k), λ k. omega (arith, e, k), λ k. omega (arith, e, k), λ k. omega (arith, e, k))
         from_seen (inr e) = subst IsVisible (sym e) (visible r u)
 
+    with_low_row : (op : IOp) (n : ℕ) → Row scope [] 1 (map s.Plain (with_low op r n))
+    with_low_row op n = by (nat_eq (n % 4096) 0)
+      where
+        by : (b : Bool) → Row scope [] 1 (map s.Plain (if b then [] else instr.I op r r (low n) ∷ []))
+        by true = row_within [] 0 1 [] (omega arith) row_none
+        by false = low_row op r n (inr refl)
+
     high_small : (n : ℕ) → high n % 2 ^ 20 < 2 ^ 20
     high_small n = omega arith
 
     constant_row_by : (k : ℕ) (long : List Instr) (n : ℕ) → 2 ≤ k → Row scope [] k (map s.Plain long) → Row scope [] k (map s.Plain (constant_by long r n))
-    constant_row_by k long n l p = by (nat_eq (high n) 0) (nat_lt ((high n + 2 ^ 19) % 2 ^ 64) (2 ^ 20))
+    constant_row_by k long n l p = by (nat_eq (high n) 0) (nat_lt ((n + 2 ^ 31) % 2 ^ 64) (2 ^ 32))
       where
-        by : (a b : Bool) → Row scope [] k (map s.Plain (if a then instr.I Addi r 0 (low n) ∷ [] else (if b then instr.U Lui r (high n % 2 ^ 20) ∷ instr.I Addi r r (low n) ∷ [] else long)))
-        by true b = row_within [] 1 k _ (omega (arith, l)) (addi_row 0 n (inl refl))
+        by : (a b : Bool) → Row scope [] k (map s.Plain (if a then instr.I Addi r 0 (low n) ∷ [] else (if b then instr.U Lui r (high n % 2 ^ 20) ∷ with_low Addiw r n else long)))
+        by true b = row_within [] 1 k _ (omega (arith, l)) (low_row Addi 0 n (inl refl))
         by false true =
             row_within [] 2 k _ (omega (arith, l))
-            (row_append [] [] 1 1 (s.Plain (instr.U Lui r (high n % 2 ^ 20)) ∷ []) (s.Plain (instr.I Addi r r (low n)) ∷ []) (row_plain (instr.U Lui r (high n % 2 ^ 20)) ((u.below, high_small n), (refl, writable r u))) (addi_row r n (inr refl)))
+            (row_append [] [] 1 1 (s.Plain (instr.U Lui r (high n % 2 ^ 20)) ∷ []) (map s.Plain (with_low Addiw r n)) (row_plain (instr.U Lui r (high n % 2 ^ 20)) ((u.below, high_small n), (refl, writable r u))) (with_low_row Addiw n))
         by false false = p
 
     constant_row_in : (k n : ℕ) → Row scope [] (2 + 2 * k) (map s.Plain (constant_in k r n))
     constant_row_in zero n = constant_row_by 2 [] n (omega arith) (row_within [] 0 2 [] (omega arith) row_none)
     constant_row_in (suc k) n =
-        constant_row_by (2 + 2 * suc k) (constant_in k r (high n) ++ instr.Sh Slli r r 12 ∷ instr.I Addi r r (low n) ∷ []) n (omega arith)
-        (subst (Row scope [] (2 + 2 * suc k)) (sym (plain_append (constant_in k r (high n)) (instr.Sh Slli r r 12 ∷ instr.I Addi r r (low n) ∷ [])))
+        constant_row_by (2 + 2 * suc k) (constant_in k r (high n) ++ instr.Sh Slli r r 12 ∷ with_low Addi r n) n (omega arith)
+        (subst (Row scope [] (2 + 2 * suc k)) (sym (plain_append (constant_in k r (high n)) (instr.Sh Slli r r 12 ∷ with_low Addi r n)))
         (row_within [] (2 + 2 * k + 2) (2 + 2 * suc k) _ (omega arith)
-        (row_append [] [] (2 + 2 * k) 2 (map s.Plain (constant_in k r (high n))) (s.Plain (instr.Sh Slli r r 12) ∷ s.Plain (instr.I Addi r r (low n)) ∷ []) (constant_row_in k (high n))
-        (row_append [] [] 1 1 (s.Plain (instr.Sh Slli r r 12) ∷ []) (s.Plain (instr.I Addi r r (low n)) ∷ []) (row_plain (instr.Sh Slli r r 12) ((u.below, u.below, omega arith), (writable r u, visible r u))) (addi_row r n (inr refl))))))
+        (row_append [] [] (2 + 2 * k) 2 (map s.Plain (constant_in k r (high n))) (s.Plain (instr.Sh Slli r r 12) ∷ map s.Plain (with_low Addi r n)) (constant_row_in k (high n))
+        (row_append [] [] 1 1 (s.Plain (instr.Sh Slli r r 12) ∷ []) (map s.Plain (with_low Addi r n)) (row_plain (instr.Sh Slli r r 12) ((u.below, u.below, omega arith), (writable r u, visible r u))) (with_low_row Addi n)))))
 
     pub constant_row : (n : ℕ) → Row scope [] 8 (map s.Plain (constant r n))
     constant_row n = constant_row_in 3 n

@@ -1,5 +1,5 @@
 -- The frames of a program over homes: what each of its statements becomes. x5 and x6 hold the words of slots while they are used.
-use Rattle.std.specs.Prelude.{◌≡◌, ℕ, pos, true, ◌+◌, ◌-◌, ◌*◌, ◌/◌, nat_lt, nat_le, ◌&&◌, not, Bool, if◌then◌else◌, List, [], ◌∷◌, ◌++◌, length, map, Option, Some, None}
+use Rattle.std.specs.Prelude.{◌≡◌, ℕ, pos, true, ◌+◌, ◌-◌, ◌*◌, ◌/◌, nat_lt, nat_le, ◌&&◌, not, if◌then◌else◌, List, [], ◌∷◌, ◌++◌, length, map, Option, Some, None}
 use Rattle.pan_base.specs.declared.operators.IOp.TheVariants.{Addi}
 use Rattle.pan_base.specs.declared.operators.LOp.TheVariants.{Ld}
 use Rattle.pan_base.specs.declared.operators.SOp.TheVariants.{Sd}
@@ -14,7 +14,7 @@ use Rattle.word_lang.specs.Text.{flow_of, flow_of_function}
 use Rattle.word_lang.specs.declared.syntax.WordFun.{WordFun}
 use Rattle.word_lang.specs.declared.syntax.Stmt.{Stmt as WordStmt, Stmt-F, fold-Stmt}
 use Rattle.word_lang.specs.declared.syntax.Stmt.TheOpen as word
-use Rattle.stack_lang.specs.Frames.{has_handlers}
+use Rattle.stack_lang.specs.Frames.{front}
 use Rattle.stack_lang.specs.declared.syntax.Catch.{Catch}
 use Rattle.stack_lang.specs.declared.syntax.StackFun.{StackFun}
 use Rattle.stack_lang.specs.declared.syntax.Stmt.{Stmt}
@@ -168,17 +168,13 @@ module _ (slot : ℕ → ℕ) where
 abbrev pub body_of : WordFun → Stmt
 body_of f = stack.Seq (fetches (slot_in f) 0 f.params ++ framed (slot_in f) f.body ∷ [])
 
--- the words before the slots: the return address, and a handler's record of two words where there are handlers
-abbrev pub front_of : Bool → ℕ
-front_of handlers = if handlers then 3 else 1
-
 -- the bytes of a frame with so many slots: a multiple of 16
 abbrev pub bytes_of : (front count : ℕ) → ℕ
 bytes_of front count = 16 * ((front + count + 1) / 2)
 
--- the bytes of a function's frame
+-- the bytes of a function's frame: none where it has no slots and calls nothing but by tail calls
 abbrev pub frame_bytes : WordFun → ℕ
-frame_bytes f = bytes_of (front_of (has_handlers (body_of f))) (length (slots f))
+frame_bytes f = bytes_of (front (body_of f)) (length (slots f))
 
 abbrev pub framed_function : WordFun → StackFun
 framed_function f = record { name = f.name; cost = f.cost; frame = frame_bytes f; body = body_of f }

@@ -1,7 +1,7 @@
 //! Instructions that give a register a word.
 
 ghost use Rattle.std.specs.Prelude.{◌≡◌, ◌++◌, ◌∷◌, [], map, OnOk};
-ghost use Rattle.stack_frames.specs.Constants.{low, high, constant_in, constant};
+ghost use Rattle.stack_frames.specs.Constants.{low, high, with_low, constant_in, constant};
 ghost use Rattle.stack_lang.specs.declared.syntax.Stmt.TheVariants as stack;
 ghost use Rattle.riscv_isa.specs.declared.instr.Instr.TheVariants as instr;
 ghost use Rattle.pan_base.specs.declared.operators.IOp.TheVariants.{Addi};
@@ -44,6 +44,26 @@ fn split(word: u64) -> (u64, i32)
     }
 }
 
+/// Puts what adds the low bits of the word to what register `rd` has, where they aren't 0.
+#[tactic(auto, using(crate::proofs::Rules::constant_rules))]
+fn put_low(code: &mut List<Stmt>, op: IOp, rd: u8, word: u64) -> Result<(), NoMemory>
+    ensures { OnOk result (code.new ≡ code.old ++ map stack.Plain (with_low op rd word)) }
+{
+    let (_, imm) = split(word);
+    if word % 4096 != 0 {
+        put(
+            code,
+            Stmt::Plain(Instr::I {
+                op,
+                rd,
+                rs1: rd,
+                imm,
+            }),
+        )?;
+    }
+    Ok(())
+}
+
 /// Puts instructions that give register `rd` the word, with its high bits by as many steps as the depth allows.
 #[tactic(auto, using(crate::proofs::Rules::constant_rules))]
 fn put_constant_in(code: &mut List<Stmt>, depth: u8, rd: u8, word: u64) -> Result<(), NoMemory>
@@ -52,7 +72,7 @@ fn put_constant_in(code: &mut List<Stmt>, depth: u8, rd: u8, word: u64) -> Resul
     let (quotient, rest) = split(word);
     if quotient == 0 {
         put(code, sum(rd, 0, rest))?;
-    } else if quotient.wrapping_add(1 << 19) < 1 << 20 {
+    } else if word.wrapping_add(1 << 31) < 1 << 32 {
         put(
             code,
             Stmt::Plain(Instr::U {
@@ -61,7 +81,7 @@ fn put_constant_in(code: &mut List<Stmt>, depth: u8, rd: u8, word: u64) -> Resul
                 high: (quotient % (1 << 20)) as u32,
             }),
         )?;
-        put(code, sum(rd, rd, rest))?;
+        put_low(code, IOp::Addiw, rd, word)?;
     } else if depth > 0 {
         put_constant_in(code, depth - 1, rd, quotient)?;
         put(
@@ -73,13 +93,13 @@ fn put_constant_in(code: &mut List<Stmt>, depth: u8, rd: u8, word: u64) -> Resul
                 amount: 12,
             }),
         )?;
-        put(code, sum(rd, rd, rest))?;
+        put_low(code, IOp::Addi, rd, word)?;
     }
     Ok(())
 }
 
-/// Puts instructions that give register `rd` the word, at most 8: ADDI from x0, or LUI and ADDI, or those of the word's
-/// quotient by 2^12 with SLLI and ADDI.
+/// Puts instructions that give register `rd` the word, at most 8: ADDI from x0, or LUI and ADDIW, or those of the word's
+/// quotient by 2^12 with SLLI and ADDI. Where the low 12 bits are 0 nothing is added.
 pub fn put_constant(code: &mut List<Stmt>, rd: u8, word: u64) -> Result<(), NoMemory>
     ensures { OnOk result (code.new ≡ code.old ++ map stack.Plain (constant rd word)) }
 {

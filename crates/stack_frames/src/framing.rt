@@ -8,15 +8,14 @@ ghost use Rattle.stack_lang.specs.Stage as stacks;
 ghost use Rattle.stack_frames.specs.Frames.{framed_function, framed_program};
 
 use crate::bodies::{fetched_before, framed_stmt};
-use crate::handlers::words_before_slots;
 use crate::numbering::slots_of_function;
 use pan_base::{Blob, List, NoMemory};
 use pan_stage::Program;
-use stack_lang::{StackFun, StackProg};
+use stack_lang::{StackFun, StackProg, words_before_slots};
 use std::alloc::Global;
 use word_lang::{WordFun, WordProg};
 
-/// The bytes of a function's frame.
+/// The bytes of a function's frame, a multiple of 16: 0 where it has no slots and calls nothing but by tail calls.
 pub fn frame_bytes(fun: &StackFun) -> u64
     ensures { result ≡ fun.now.frame }
 {

@@ -4,7 +4,6 @@
 mod bodies;
 mod constants;
 mod framing;
-mod handlers;
 mod numbering;
 mod registers;
 

@@ -1,8 +1,10 @@
 //! The slots of a function, and their numbers.
 
-ghost use Rattle.std.specs.Prelude.{◌≡◌, ℕ, ◌^◌, ◌<◌, ◌++◌, ◌∷◌, [], length, map, IfOk, OnOk};
-ghost use Rattle.pan_flow.specs.Flow.{has};
+ghost use Rattle.std.specs.Prelude.{◌≡◌, ◌^◌, ◌<◌, ◌++◌, ◌∷◌, [], length, map, nat_le, IfOk, OnOk};
+ghost use Rattle.std.specs.List.{filter};
+ghost use Rattle.std.specs.List.Sorted.{IsStrictlyIncreasing};
 ghost use Rattle.pan_flow.specs.Functions.{variables, all_in_turn};
+ghost use Rattle.word_lang.specs.Homes.{first_slot};
 ghost use Rattle.word_lang.specs.Text.{flow_of, flow_of_function, variables_of, variables_read};
 ghost use Rattle.stack_frames.specs.Frames.{AreSlots, handler_variables, number_in};
 
@@ -130,54 +132,47 @@ fn variables_of_function(alloc: Global, function: &WordFun) -> Result<List<u32>,
     Ok(homes)
 }
 
-/// The slots that a function uses, each once. Their numbers are those below a `u32`'s most.
+/// The slots that a function uses, each once, from the lowest to the highest. Their numbers are those below a `u32`'s most.
 #[derive(Drop)]
 pub struct Slots {
     pub homes: List<u32>,
+    ghost rising: { IsStrictlyIncreasing homes },
     ghost few: { length homes < 2 ^ 32 },
 }
 
 impl Slots {
-    /// The number of a slot: how many there are below it.
+    /// The number of a slot: how many there are below it, which is its place among them.
     pub fn number(&self, home: u32) -> u32
         ensures { result ≡ number_in self.now.homes home }
     {
-        let mut count = 0;
-        for slot in self.homes.as_slice() {
-            if *slot < home {
-                count += 1;
-            }
+        match self.homes.as_slice().binary_search(&home) {
+            Ok(place) | Err(place) => place as u32,
         }
-        count
     }
 }
 
-/// Whether the home is one of these.
-fn is_among(homes: &[u32], home: u32) -> bool
-    ensures { result ≡ has homes.now home }
+/// The homes that are slots, as they occur.
+fn only_slots(alloc: Global, homes: &[u32]) -> Result<Vec<u32>, NoMemory>
+    ensures { IfOk result (λ slots. slots.items ≡ filter (λ x. nat_le first_slot x) homes.now) }
 {
-    for other in homes {
-        if *other == home {
-            return true;
-        }
-    }
-    false
-}
-
-/// The different slots among homes.
-fn slots_among(alloc: Global, homes: &[u32]) -> Result<List<u32>, NoMemory>
-    ensures { IfOk result (λ slots. AreSlots slots homes.now) }
-{
-    let mut slots = List::new(alloc);
-    let mut left = homes.len();
-    while left > 0 {
-        left -= 1;
-        let home = homes[left];
-        if home >= FIRST_SLOT && !is_among(slots.as_slice(), home) {
-            slots.push(home)?;
+    let mut slots = Vec::new(alloc);
+    for home in homes {
+        if *home >= FIRST_SLOT {
+            slots.push(*home)?;
         }
     }
     Ok(slots)
+}
+
+/// The different slots among homes, from the lowest to the highest.
+fn slots_among(alloc: Global, homes: &[u32]) -> Result<List<u32>, NoMemory>
+    ensures slots { IfOk result (λ slots. AreSlots slots homes.now) }
+    ensures rising { IfOk result IsStrictlyIncreasing }
+{
+    let mut slots = only_slots(alloc, homes)?;
+    slots.sort_unstable();
+    slots.dedup();
+    Ok(List::from_vec(slots))
 }
 
 /// The slots of a function.

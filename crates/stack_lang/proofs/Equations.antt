@@ -1,9 +1,8 @@
 -- What is said of a statement, by what is said of its parts.
-use Rattle.std.proofs.Common.{◌≡◌, ℕ, ◌≤◌, Bool, true, false, cond, List, subst, arith}
+use Rattle.std.proofs.Common.{◌≡◌, ℕ, List, subst}
 use Rattle.pan_stage.specs.Stage.{Site}
-use Rattle.stack_lang.specs.declared.syntax.StackFun.{StackFun}
 use Rattle.stack_lang.specs.declared.syntax.Stmt.{Stmt, Stmt-F, roll-Stmt, map-Stmt, ind-Stmt, fold-roll-Stmt}
-use Rattle.stack_lang.specs.Frames.{handlers_layer, has_handlers, front_words}
+use Rattle.stack_lang.specs.Frames.{front_layer, front}
 use Rattle.stack_lang.specs.Meaning.{Callee, Does, run_layer, run}
 use Rattle.stack_lang.specs.Needs.{code_layer, code}
 use Rattle.stack_lang.specs.Text.{Mention, sites_layer, sites, mentions_layer, mentions}
@@ -28,14 +27,6 @@ pub code_roll : (x : Stmt-F Stmt) → code (roll-Stmt x) ≡ code_layer (map-Stm
 unfolding code
 code_roll x = fold-roll-Stmt ℕ code_layer x
 
-pub handlers_roll : (x : Stmt-F Stmt) → has_handlers (roll-Stmt x) ≡ handlers_layer (map-Stmt Stmt Bool has_handlers x)
-unfolding has_handlers
-handlers_roll x = fold-roll-Stmt Bool handlers_layer x
-
--- there are 1 or 3 words before the slots
-pub front_small : (f : StackFun) → (1 ≤ front_words f) × (front_words f ≤ 3)
-front_small f = by (has_handlers f.body)
-  where
-    by : (b : Bool) → (1 ≤ cond b 3 1) × (cond b 3 1 ≤ 3)
-    by true = (omega arith, omega arith)
-    by false = (omega arith, omega arith)
+pub front_roll : (x : Stmt-F Stmt) → front (roll-Stmt x) ≡ front_layer (map-Stmt Stmt ℕ front x)
+unfolding front
+front_roll x = fold-roll-Stmt ℕ front_layer x

@@ -1,4 +1,4 @@
--- What a program over frames means, with a stack of so many bytes. The toll counts instructions where they are executed: a slot as a far one, a jump as two instructions and a branch as three.
+-- What a program over frames means, with a stack of so many bytes. The toll counts instructions where they are executed: a slot as a far one, a jump as two instructions and a branch as three, and each function as one that has a frame with a return address.
 use Rattle.std.specs.Prelude.{ℕ, suc, ◌%◌, ◌^◌, nat_eq, nat_le, Bool, true, false, if◌then◌else◌, List, [], Option, Some, None, slice_get}
 use Rattle.pan_base.specs.Words.{compare, truth}
 use Rattle.pan_base.specs.Events.{Replied, Stack, Fails}

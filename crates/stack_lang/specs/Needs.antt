@@ -30,7 +30,7 @@ code_layer (stmt.TailCall f) = 6
 code_layer stmt.Return = 5
 code_layer (stmt.Raise i) = 3
 
--- the instructions of a statement's text, where every slot is far and every jump long
+-- the instructions of a statement's text, where every slot is far, every jump long, and a return address in every frame
 unfoldable pub code : Stmt → ℕ
 code = fold-Stmt ℕ code_layer
 

@@ -2,8 +2,10 @@
 //! they mean (`specs/`).
 #![tactic(auto)]
 
+mod fronts;
 mod program;
 mod syntax;
 
+pub use fronts::words_before_slots;
 pub use program::StackProg;
 pub use syntax::{Catch, StackFun, Stmt};

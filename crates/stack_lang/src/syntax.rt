@@ -74,7 +74,8 @@ pub struct StackFun {
     pub name: Blob,
     /// What an active call costs, in bytes of stack.
     pub cost: u64,
-    /// The bytes of its frame: a word for the return address, two where it has handlers, and then its slots, a word each.
+    /// The bytes of its frame, a multiple of 16: its slots, a word each, behind a word for the return address where it calls
+    /// (other than by a tail call), and two more where a call is under a handler; 0 where there is none of these.
     pub frame: u64,
     pub body: Stmt,
 }

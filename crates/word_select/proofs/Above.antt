@@ -137,3 +137,56 @@ different_counted n (x ∷ xs) l = by (has xs x) refl (different_counted n xs (o
 -- there are no more different ones than numbers below
 pub different_few : (xs : List ℕ) → different xs ≤ above xs
 different_few xs = let l = different_counted (above xs) xs (omega arith) in let k = counted_few (above xs) xs in omega (arith, l, k)
+
+-- ---- rows of which one has what the other has
+
+counted_within : (n : ℕ) (xs ys : List ℕ) → ((z : ℕ) → has xs z ≡ true → has ys z ≡ true) → counted n xs ≤ counted n ys
+counted_within zero xs ys h = omega arith
+counted_within (suc n) xs ys h = let l = counted_within n xs ys h in let k = by (has xs n) (has ys n) (h n) in omega (arith, l, k)
+  where
+    by : (b c : Bool) → (b ≡ true → c ≡ true) → one_if b ≤ one_if c
+    by true true f = omega arith
+    by false true f = omega arith
+    by false false f = omega arith
+    by true false f = absurd (cc (f refl))
+
+-- a variable that stands no lower adds nothing below
+counted_below : (n x : ℕ) (xs : List ℕ) → n ≤ x → counted n (x ∷ xs) ≤ counted n xs
+counted_below zero x xs l = omega arith
+counted_below (suc n) x xs l = let k = counted_below n x xs (omega (arith, l)) in by (nat_eq n x) refl k
+  where
+    by : (c : Bool) → nat_eq n x ≡ c → counted n (x ∷ xs) ≤ counted n xs → one_if (c || has xs n) + counted n (x ∷ xs) ≤ one_if (has xs n) + counted n xs
+    by true e k = let is = same n x e in absurd (omega (arith, l, is))
+    by false e k = omega (arith, k)
+
+-- one more adds one at most
+counted_one : (n x : ℕ) (xs : List ℕ) → counted n (x ∷ xs) ≤ suc (counted n xs)
+counted_one zero x xs = omega arith
+counted_one (suc n) x xs = by (nat_eq n x) refl (counted_one n x xs)
+  where
+    few : (b : Bool) → one_if b ≤ 1
+    few true = omega arith
+    few false = omega arith
+
+    by : (c : Bool) → nat_eq n x ≡ c → counted n (x ∷ xs) ≤ suc (counted n xs) → one_if (c || has xs n) + counted n (x ∷ xs) ≤ suc (one_if (has xs n) + counted n xs)
+    by true e k = let is = same n x e in let l = counted_below n x xs (omega (arith, is)) in let m = few true in omega (arith, l, m)
+    by false e k = omega (arith, k)
+
+counted_different : (n : ℕ) (xs : List ℕ) → counted n xs ≤ different xs
+counted_different n [] = none n
+  where
+    none : (n : ℕ) → counted n [] ≤ 0
+    none zero = omega arith
+    none (suc n) = let l = none n in omega (arith, l)
+counted_different n (x ∷ xs) = by (has xs x) refl (counted_different n xs)
+  where
+    by : (b : Bool) → has xs x ≡ b → counted n xs ≤ different xs → counted n (x ∷ xs) ≤ (if b then different xs else suc (different xs))
+    by true e l = let k = counted_within n (x ∷ xs) xs (λ z h. elim (has_cases x xs z h) [ inl is ↦ ap (has xs) is ∙ e | inr m ↦ m ]) in omega (arith, l, k)
+    by false e l = let k = counted_one n x xs in omega (arith, l, k)
+
+-- what another row has too are no more different ones
+pub different_within : (xs ys : List ℕ) → ((z : ℕ) → has xs z ≡ true → has ys z ≡ true) → different xs ≤ different ys
+different_within xs ys h =
+    let a = different_counted (above xs) xs (omega arith) in
+    let b = counted_within (above xs) xs ys h in
+    let c = counted_different (above xs) ys in omega (arith, a, b, c)

@@ -13,3 +13,13 @@ pub mod OperationTexts
 pub mod Texts
 pub mod SelectedTexts
 pub mod Kept
+pub mod UsedRules
+pub mod PruneRules
+pub mod Variants
+pub mod Alike
+pub mod PrunedRuns
+pub mod FewerWays
+pub mod PrunedTexts
+pub mod PrunedPrograms
+pub mod Chosen
+pub mod FlagLaws

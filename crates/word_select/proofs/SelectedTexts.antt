@@ -43,7 +43,7 @@ use Rattle.word_select.proofs.Texts.{and_cases, parts_right, Text, Exits, Fine, 
 
 -- ---- texts as equations
 
-text_of : (a b : List Site) (n m : ℕ) (ms ns : List Mention) (f g : Flow) → a ≡ b → n ≡ m → ms ≡ ns → f ≡ g → ◌≡◌ {A = Text} (record { sited = a; steps = n; mentioned = ms; flow = f }) (record { sited = b; steps = m; mentioned = ns; flow = g })
+pub text_of : (a b : List Site) (n m : ℕ) (ms ns : List Mention) (f g : Flow) → a ≡ b → n ≡ m → ms ≡ ns → f ≡ g → ◌≡◌ {A = Text} (record { sited = a; steps = n; mentioned = ms; flow = f }) (record { sited = b; steps = m; mentioned = ns; flow = g })
 text_of a b n m ms ns f g e e2 e3 e4 = same_sites ∙ same_steps ∙ same_mentions ∙ same_flow
   where
     make : List Site → ℕ → List Mention → Flow → Text

@@ -95,7 +95,8 @@ test_read x ps z h = by (found x ps) (λ f e. found_spoken x ps f e z) h
   where
     by : (o : Option Fact) → ((f : Fact) → o ≡ Some f → about z f ≡ true → spoken z ps ≡ true) → has (variables_read (test_by o x ps)) z ≡ true → (z ≡ x) ⊎ (spoken z ps ≡ true)
     by None g h = inl (has_one x z h)
-    by (Some (Number n)) g h = inl (has_one x z h)
+    by (Some (Number zero)) g h = absurd (cc h)
+    by (Some (Number (suc n))) g h = absurd (cc h)
     by (Some (Sum a c)) g h = inl (has_one x z h)
     by (Some (Compared t a b)) g h = elim (operand_read a ps (operand b ps ∷ []) z h) [
       | inl e ↦ inr (g (Compared t a b) refl (or_left (nat_eq z a) (nat_eq z b) (test_of z a e)))

@@ -113,7 +113,8 @@ test_holds ps x u h = by (found x ps) (λ f e. holds_found ps x f u e h) (λ a. 
   where
     by : (o : Option Fact) → ((f : Fact) → o ≡ Some f → u x ≡ value_of f u) → ((a : ℕ) → operand_word (operand a ps) u ≡ u a) → AsZero (u x) (outcome (test_by o x ps) u)
     by None is g = nonzero (u x)
-    by (Some (Number n)) is g = nonzero (u x)
+    by (Some (Number zero)) is g = as_zero (u x) 0 (is (Number zero) refl)
+    by (Some (Number (suc n))) is g = subst (λ m. AsZero m 1) (sym (is (Number (suc n)) refl)) tt
     by (Some (Sum a n)) is g = nonzero (u x)
     by (Some (Compared t a b)) is g =
         as_zero (u x) (truth t (operand_word (operand a ps) u) (operand_word (operand b ps) u))

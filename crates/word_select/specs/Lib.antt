@@ -1,3 +1,4 @@
 pub mod Facts
 pub mod Selected
 pub mod Bounds
+pub mod Pruned

@@ -1,4 +1,4 @@
--- The operations of steps. Each takes what is known of its operands; a step whose variable is then read no more still stands.
+-- The operations of steps. Each takes what is known of its operands; a step whose variable is then read no more still stands here (`Pruned`).
 use Rattle.std.specs.Prelude.{ℕ, pos, zero, suc, ◌-◌, ◌%◌, List, [], ◌∷◌, map, Option, Some, None}
 use Rattle.pan_base.specs.declared.operators.BinOp.{BinOp}
 use Rattle.pan_base.specs.declared.operators.BinOp.TheVariants as bin_op
@@ -113,11 +113,17 @@ operand_of (Some (suc n)) x = Some x
 abbrev pub operand : ℕ → Facts → Option ℕ
 operand x ps = operand_of (number_at x ps) x
 
+-- whether a number isn't 0: never, or always
+abbrev pub test_of_number : ℕ → Test
+test_of_number zero = record { comparison = cmp.Ne; left = None; right = None }
+test_of_number (suc n) = record { comparison = cmp.Eq; left = None; right = None }
+
 abbrev pub test_by : Option Fact → ℕ → Facts → Test
+test_by (Some (Number n)) x ps = test_of_number n
 test_by (Some (Compared c a b)) x ps = record { comparison = c; left = operand a ps; right = operand b ps }
 test_by _ x ps = record { comparison = cmp.Ne; left = Some x; right = None }
 
--- whether a variable isn't 0: the comparison that gave it, where that is known
+-- whether a variable isn't 0: by its number or the comparison that gave it, where that is known
 abbrev pub test_at : ℕ → Facts → Test
 test_at x ps = test_by (found x ps) x ps
 

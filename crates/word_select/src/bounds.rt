@@ -16,7 +16,7 @@ pub fn greater(a: u64, b: u64) -> u64
 }
 
 /// The least number above each of these variables.
-fn above_all(variables: &[u32]) -> u64
+pub fn above_all(variables: &[u32]) -> u64
     ensures { result ≡ above variables.now }
 {
     let mut least = 0;

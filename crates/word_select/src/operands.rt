@@ -25,11 +25,27 @@ fn operand(known: &[Known], x: u32) -> Option<u32>
     }
 }
 
-/// Whether a variable isn't 0: the comparison that gave it, where that is known.
+/// Whether a number isn't 0, as a test that reads no variable.
+fn test_of_number(number: u64) -> Test
+    ensures { result ≡ selected.test_of_number number }
+{
+    let comparison = match number {
+        0 => Cmp::Ne,
+        _ => Cmp::Eq,
+    };
+    Test {
+        comparison,
+        left: None,
+        right: None,
+    }
+}
+
+/// Whether a variable isn't 0: by its number or the comparison that gave it, where that is known.
 pub fn test_at(known: &[Known], x: u32) -> Test
     ensures { result ≡ selected.test_at x known.now }
 {
     match found(known, x) {
+        Some(Fact::Number(number)) => test_of_number(number),
         Some(Fact::Compared(comparison, a, b)) => Test {
             comparison,
             left: operand(known, a),

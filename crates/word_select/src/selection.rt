@@ -56,7 +56,8 @@ fn forgetting(alloc: Global, stmt: Stmt) -> Selection
     Selection { stmt, facts }
 }
 
-fn copied(alloc: Global, variables: &List<u32>) -> Result<List<u32>, NoMemory>
+/// A copy of variables. `NoMemory` is the one error.
+pub fn copied(alloc: Global, variables: &List<u32>) -> Result<List<u32>, NoMemory>
     ensures { IfOk result (λ copy. copy ≡ variables.now) }
 {
     Ok(List::from_slice(alloc, variables.as_slice())?)

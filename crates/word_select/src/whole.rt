@@ -5,9 +5,11 @@ ghost use Rattle.loop_lang.specs.Stage as loops;
 ghost use Rattle.pan_stage.specs.Locals as locals;
 ghost use Rattle.pan_stage.specs.Stage.{Keeps};
 ghost use Rattle.word_lang.specs.Stage as words;
+ghost use Rattle.word_select.specs.Pruned.{chosen_function};
 ghost use Rattle.word_select.specs.Selected as selected;
 
 use crate::bounds::{bound, greater};
+use crate::pruning::prune_function;
 use crate::selection::select_stmt;
 use loop_lang::{LoopFun, LoopProg};
 use pan_base::{Blob, List, NoMemory};
@@ -51,12 +53,23 @@ fn select_function(alloc: Global, f: &LoopFun) -> Result<WordFun, NoMemory>
     })
 }
 
-fn select_functions(alloc: Global, functions: &[LoopFun]) -> Result<List<WordFun>, NoMemory>
-    ensures { IfOk result (λ fs. fs ≡ map selected.select_function functions.now) }
+/// The operations of a function, without those that nothing uses. Two rounds are enough for what selection leaves: the first
+/// drops the constants and comparisons that have gone into immediates, addresses and tests, and the second the zeros that
+/// those comparisons alone used.
+fn choose_function(alloc: Global, f: &LoopFun) -> Result<WordFun, NoMemory>
+    ensures { IfOk result (λ g. g ≡ chosen_function f.now) }
+{
+    let selected = select_function(alloc, f)?;
+    let pruned = prune_function(alloc, selected)?;
+    prune_function(alloc, pruned)
+}
+
+fn choose_functions(alloc: Global, functions: &[LoopFun]) -> Result<List<WordFun>, NoMemory>
+    ensures { IfOk result (λ fs. fs ≡ map chosen_function functions.now) }
 {
     let mut made = List::new(alloc);
     for i in 0..functions.len() {
-        made.push(select_function(alloc, &functions[i])?)?;
+        made.push(choose_function(alloc, &functions[i])?)?;
     }
     Ok(made)
 }
@@ -64,11 +77,11 @@ fn select_functions(alloc: Global, functions: &[LoopFun]) -> Result<List<WordFun
 /// The program in operations. Wherever the program doesn't fail, it is seen as the program; it has the same face and sites,
 /// and needs no more of frames and code. `NoMemory` is the one error; it also stands for a function that takes all numbers
 /// of 32 bits, for which no lawful frame has room.
-#[tactic(auto, using(crate::proofs::Kept::select_keeps, crate::proofs::Kept::select_well_formed))]
+#[tactic(auto, using(crate::proofs::Chosen::chosen_keeps, crate::proofs::Chosen::chosen_well_formed))]
 pub fn select(alloc: Global, prog: &LoopProg) -> Result<WordProg, NoMemory>
     ensures { IfOk result (λ w. Keeps (loops.stage prog.now.program) (words.stage w.program)) }
 {
-    let functions = select_functions(alloc, prog.program.functions.as_slice())?;
+    let functions = choose_functions(alloc, prog.program.functions.as_slice())?;
     let program = prog.program.with_functions(alloc, functions)?;
     Ok(WordProg { program })
 }

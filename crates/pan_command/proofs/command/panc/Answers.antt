@@ -1,6 +1,6 @@
 use Rattle.std.proofs.Common.{sym, ◌∙◌}
-use Rattle.command_words.specs.declared.order.Action.TheVariants.{Compile, Check, Run, Meaning}
-use Rattle.pan_command.proofs.Keeping.{compile_keeps, check_keeps, run_keeps, meaning_keeps}
+use Rattle.command_words.specs.declared.order.Action.TheVariants.{Compile, Check, Run, Meaning, Show, Dis}
+use Rattle.pan_command.proofs.Keeping.{compile_keeps, check_keeps, run_keeps, meaning_keeps, show_keeps, dis_keeps}
 use Rattle.pan_command.proofs.WordsGiven.{acts, usage_at, unlawful_at, failed_at}
 use Rattle.pan_command.proofs.command.panc.Goals as goal
 
@@ -28,3 +28,11 @@ returns-clause-run g c = λ image script options given.
 pub returns-clause-meaning : goal.returns-clause-meaning
 returns-clause-meaning g c = λ source script options given.
     rw c.code.ensures (meaning_keeps options source script _ c.act.result (acts c.args.words.now _ (Meaning source script) options c.act.result given c.act.ensures))
+
+pub returns-clause-show : goal.returns-clause-show
+returns-clause-show g c = λ source options given.
+    rw c.code.ensures (show_keeps options.stage source _ c.act.result (acts c.args.words.now _ (Show source) options c.act.result given c.act.ensures))
+
+pub returns-clause-dis : goal.returns-clause-dis
+returns-clause-dis g c = λ image options given.
+    rw c.code.ensures (dis_keeps image _ c.act.result (acts c.args.words.now _ (Dis image) options c.act.result given c.act.ensures))

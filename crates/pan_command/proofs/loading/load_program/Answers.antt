@@ -2,8 +2,7 @@ use Rattle.std.proofs.Common.{rules, ◌≡◌, ℕ, List, inr}
 use Rattle.pan_base.specs.Causes.{Rose}
 use Rattle.pan_base.specs.Sinks.{Took, TookFront}
 use Rattle.front_end.specs.declared.error.SourceError.TheVariants.{NoMemory}
-use Rattle.pan_command.specs.declared.error.BuildError.TheVariants.{Source}
-use Rattle.pan_command.specs.Served.{source_line}
+use Rattle.pan_command.specs.Reading.{source_line}
 use Rattle.pan_command.specs.Outside.{outside, Holds}
 use Rattle.pan_command.proofs.Refusals.{source_so, unpassed_so}
 use Rattle.pan_command.proofs.loading.load_program.Goals as goal
@@ -23,7 +22,7 @@ returns-in-Ok-put_source_line g c =
     let held : Holds (g.W.Workspace.state c.args.files.now).files c.args.name.now bytes = rw c.as_slice.ensures q.1.0 in
     let read = c.in-Err-read_program in
     let other : read.error ≡ NoMemory → ⊥ = search rules in
-    let line : Took (g.O.Sink.state c.args.out.now) (g.O.Sink.state c.put_source_line.new.out) (source_line (Source read.error)) = search rules in (
+    let line : Took (g.O.Sink.state c.args.out.now) (g.O.Sink.state c.put_source_line.new.out) (source_line read.error) = search rules in (
       q.0,
       unpassed_so (outside (g.W.Workspace.state c.args.files.now) (g.O.Sink.state c.args.out.now)) c.args.name.now bytes held
           (Took (g.O.Sink.state c.args.out.now) (g.O.Sink.state c.put_source_line.new.out)) read.error other read.ensures.refused read.ensures.passes read.ensures.exact line,
@@ -37,7 +36,7 @@ returns g c =
     let read = c.in-Err-read_program in
     let other : read.error ≡ NoMemory → ⊥ = search rules in
     let cause : Rose (g.O.Sink.state c.args.out.now).faults (g.O.Sink.state c.put_source_line.new.out).faults = search rules in
-    let line : TookFront (g.O.Sink.state c.args.out.now) (g.O.Sink.state c.put_source_line.new.out) (source_line (Source read.error)) = search rules in
+    let line : TookFront (g.O.Sink.state c.args.out.now) (g.O.Sink.state c.put_source_line.new.out) (source_line read.error) = search rules in
     let unpassed = unpassed_so (outside (g.W.Workspace.state c.args.files.now) (g.O.Sink.state c.args.out.now)) c.args.name.now bytes held
     (TookFront (g.O.Sink.state c.args.out.now) (g.O.Sink.state c.put_source_line.new.out)) read.error other read.ensures.refused read.ensures.passes read.ensures.exact line in
     (q.0, (cause, inr unpassed))

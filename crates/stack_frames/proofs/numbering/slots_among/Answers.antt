@@ -1,14 +1,14 @@
-use Rattle.std.proofs.Common.{◌-◌, refl, arith}
-use Rattle.std.specs.Prelude.{slice_index}
-use Rattle.stack_frames.proofs.Numbers.{next_new}
+use Rattle.std.proofs.Common.{sym, subst}
+use Rattle.std.specs.List.Sorted.{IsStrictlyIncreasing}
+use Rattle.std.proofs.lemmas.List.Filters.{dedup_is}
+use Rattle.stack_frames.specs.Frames.{AreSlots}
+use Rattle.stack_frames.proofs.Numbers.{slots_in_order}
 use Rattle.stack_frames.proofs.numbering.slots_among.Goals as goal
 
-pub loop-left-preserved-then-not-is_among : goal.loop-left-preserved-then-not-is_among
-loop-left-preserved-then-not-is_among c =
-    let i = c.loop-left.invariant in
-    let some = c.loop-left-test.true in
-    let within = i.1 in
-    let a = c.as_slice.ensures in
-    let b = c.is_among.ensures in
-    let d = c.if-not-is_among.true in
-    (next_new c.loop-left.slots c.push.new.self c.args.homes.now c.loop-left.left (slice_index c.args.homes.now (c.loop-left.left - 1)) (omega (arith, some)) within refl i.0 c.in_ok-push.ensures.ok (omega (arith, c.if-home-ge-FIRST_SLOT.true)) cc, omega (arith, within))
+pub returns-clause-slots : goal.returns-clause-slots
+returns-clause-slots c =
+    subst (λ xs. AreSlots xs c.args.homes.now) (sym c.from_vec.ensures) (slots_in_order c.args.homes.now _ _ _ c.in_ok-slots.ensures c.sort_unstable.ensures.permutation c.sort_unstable.ensures.sorted (dedup_is _ _ _ c.dedup.ensures.filtered)).0
+
+pub returns-clause-rising : goal.returns-clause-rising
+returns-clause-rising c =
+    subst IsStrictlyIncreasing (sym c.from_vec.ensures) (slots_in_order c.args.homes.now _ _ _ c.in_ok-slots.ensures c.sort_unstable.ensures.permutation c.sort_unstable.ensures.sorted (dedup_is _ _ _ c.dedup.ensures.filtered)).1

@@ -1,0 +1,4 @@
+pub mod ForeignNames
+pub mod Homes
+pub mod Whole
+pub mod Sources

@@ -1,0 +1,4 @@
+pub mod Chained
+pub mod InTime
+pub mod Errors
+pub mod Joined

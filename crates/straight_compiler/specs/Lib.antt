@@ -1,3 +1,0 @@
-pub mod Follow
-pub mod Alone
-pub mod Performs

@@ -1,6 +1,0 @@
-use Rattle.std.proofs.Common.{◌≡◌, map, take}
-use Rattle.word_select.specs.Selected.{select_function}
-use Rattle.word_select.proofs.whole.select_functions.Given as goal
-
-abbrev pub invariant-loop-i : goal.invariant-loop-i
-invariant-loop-i l = l.made ≡ map select_function (take l.i l.functions)
