@@ -15,7 +15,11 @@ fn put_expr(page: &mut Page, expr: &Expr) -> Result<(), AllocError> {
         Expr::Var(variable) => page.variable(*variable),
         Expr::LoadWord(address) => put_at(page, "memory[", address.get()),
         Expr::LoadByte(address) => put_at(page, "byte[", address.get()),
-        Expr::Bin(op, left, right) => put_pair(page, operator(*op), left.get(), right.get()),
+        Expr::Bin(op, left, right) => {
+            page.put("(")?;
+            put_expr(page, left.get())?;
+            put_second(page, operator(*op), right.get())
+        }
         Expr::Shift(op, of, amount) => {
             page.put("(")?;
             put_expr(page, of.get())?;
@@ -23,7 +27,11 @@ fn put_expr(page: &mut Page, expr: &Expr) -> Result<(), AllocError> {
             page.number(*amount as u64)?;
             page.put(")")
         }
-        Expr::Compare(op, left, right) => put_pair(page, comparison(*op), left.get(), right.get()),
+        Expr::Compare(op, left, right) => {
+            page.put("(")?;
+            put_expr(page, left.get())?;
+            put_second(page, comparison(*op), right.get())
+        }
     }
 }
 
@@ -34,10 +42,9 @@ fn put_at(page: &mut Page, place: &str, address: &Expr) -> Result<(), AllocError
     page.put("]")
 }
 
+/// The sign and the second of two expressions, and the parenthesis behind them.
 #[cycle(put_expr)]
-fn put_pair(page: &mut Page, sign: &str, left: &Expr, right: &Expr) -> Result<(), AllocError> {
-    page.put("(")?;
-    put_expr(page, left)?;
+fn put_second(page: &mut Page, sign: &str, right: &Expr) -> Result<(), AllocError> {
     page.put(sign)?;
     put_expr(page, right)?;
     page.put(")")
