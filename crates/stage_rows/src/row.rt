@@ -7,8 +7,40 @@ use crate::page::Page;
 use crate::trouble::Trouble;
 use crate::words::put_words;
 use front_end::read_program;
-use pan_driver::build_checked;
-use std::alloc::Global;
+use pan_driver::{Built, build_checked};
+use std::alloc::{AllocError, Global};
+
+/// A stage that can be printed.
+#[derive(Clone, Copy, Debug, PartialEq, Eq)]
+enum Stage {
+    Words,
+    Steps,
+    Operations,
+    Frames,
+}
+
+impl Stage {
+    /// The stage of this name.
+    fn named(name: &str) -> Option<Stage> {
+        match name {
+            "words" => Some(Stage::Words),
+            "steps" => Some(Stage::Steps),
+            "operations" => Some(Stage::Operations),
+            "frames" => Some(Stage::Frames),
+            _ => None,
+        }
+    }
+
+    /// Adds the text of the stage to the page.
+    fn put(self, alloc: Global, page: &mut Page, built: &Built) -> Result<(), AllocError> {
+        match self {
+            Stage::Words => put_crep(page, built.crep()),
+            Stage::Steps => put_loops(page, built.loops()),
+            Stage::Operations => put_words(alloc, page, built.words()),
+            Stage::Frames => put_frames(page, built.stack()),
+        }
+    }
+}
 
 /// A row, up to the line that was followed last.
 #[derive(Drop)]
@@ -44,24 +76,19 @@ impl Row {
             }
             "stage" => {
                 page.line(0, line)?;
-                self.put_stage(alloc, rest, page)?;
+                let stage = Stage::named(rest).ok_or(Trouble::Line)?;
+                self.put_stage(alloc, stage, page)?;
             }
             _ => return Err(Trouble::Line),
         }
         Ok(())
     }
 
-    /// Adds the text of a stage of the row's source.
-    fn put_stage(&self, alloc: Global, stage: &str, page: &mut Page) -> Result<(), Trouble> {
+    /// Adds what the passes make of the row's source, at this stage, to the page.
+    fn put_stage(&self, alloc: Global, stage: Stage, page: &mut Page) -> Result<(), Trouble> {
         let checked = read_program(alloc, self.source.as_slice())?;
         let built = build_checked(alloc, checked)?;
-        match stage {
-            "words" => put_crep(page, built.crep())?,
-            "steps" => put_loops(page, built.loops())?,
-            "operations" => put_words(alloc, page, built.words())?,
-            "frames" => put_frames(page, built.stack())?,
-            _ => return Err(Trouble::Line),
-        }
+        stage.put(alloc, page, &built)?;
         Ok(())
     }
 }
