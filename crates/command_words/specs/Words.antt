@@ -3,7 +3,7 @@ use Rattle.std.specs.Prelude.{◌≡◌, ℕ, ◌%◌, ◌≤◌, if◌then◌el
 use Rattle.std.specs.Str.{bytes_eq}
 use Rattle.pan_base.specs.Spelling.{numeral}
 use Rattle.command_words.specs.declared.order.Action.{Action}
-use Rattle.command_words.specs.declared.order.Action.TheVariants.{Compile, Check, Run, Meaning, Show, Dis}
+use Rattle.command_words.specs.declared.order.Action.TheVariants.{Compile, Check, Run, Meaning, Show, Dis, Bound}
 use Rattle.command_words.specs.declared.order.Options.{Options}
 use Rattle.command_words.specs.declared.order.Order.{Order}
 use Rattle.command_words.specs.declared.order.Stage.{Stage}
@@ -18,6 +18,7 @@ action_word (Run image script) = codes "run"
 action_word (Meaning source script) = codes "meaning"
 action_word (Show source) = codes "show"
 action_word (Dis image) = codes "dis"
+action_word (Bound source) = codes "bound"
 
 -- the name that follows it
 abbrev pub first_name : Action → List ℕ
@@ -27,6 +28,7 @@ first_name (Run image script) = image
 first_name (Meaning source script) = source
 first_name (Show source) = source
 first_name (Dis image) = image
+first_name (Bound source) = source
 
 -- the second name, where the action has two
 abbrev pub second_name : Action → Option (List ℕ)
@@ -36,6 +38,7 @@ second_name (Run image script) = Some script
 second_name (Meaning source script) = Some script
 second_name (Show source) = None
 second_name (Dis image) = None
+second_name (Bound source) = None
 
 -- In what follows `value` tells the values that the words give, by the name of the argument.
 

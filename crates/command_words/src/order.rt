@@ -39,6 +39,8 @@ pub enum Action {
     Show { source: Text },
     /// List the code of an image.
     Dis { image: Text },
+    /// Bound the stack of a source.
+    Bound { source: Text },
 }
 
 /// What the words ask for.

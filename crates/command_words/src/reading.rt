@@ -44,6 +44,7 @@ fn action_on(
         }),
         ("show", None) => Ok(Action::Show { source: first }),
         ("dis", None) => Ok(Action::Dis { image: first }),
+        ("bound", None) => Ok(Action::Bound { source: first }),
         _ => Err(WordsError::Usage),
     }
 }
@@ -99,7 +100,7 @@ fn match_words<'a>(alloc: Global, words: &'a [&'a str]) -> Result<ArgMatches<'a>
 /// The order that the words of the command line give, the program's own name left out.
 ///
 /// They are an action with the names of its files, `compile SRC IMG`, `check SRC`, `run IMG SCRIPT`, `meaning SRC SCRIPT`,
-/// `show SRC` or `dis IMG`, and options anywhere among them, each at most once and with one value, as `--name VALUE` or
+/// `show SRC`, `dis IMG` or `bound SRC`, and options anywhere among them, each at most once and with one value, as `--name VALUE` or
 /// `--name=VALUE`:
 /// - `--stack`, bytes of stack: a multiple of 16 and at most 67,108,864; 65,536 where it isn't given;
 /// - `--local`, bytes of local memory: a multiple of 8 and at most 67,108,864; 65,536 where it isn't given;

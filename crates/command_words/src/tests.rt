@@ -30,6 +30,7 @@ fn action_shown(alloc: Global, action: &Action) -> Result<String, AllocError> {
         }
         Action::Show { source } => format!(in alloc; "show {}", source.as_str()),
         Action::Dis { image } => format!(in alloc; "dis {}", image.as_str()),
+        Action::Bound { source } => format!(in alloc; "bound {}", source.as_str()),
     }
 }
 
@@ -53,7 +54,7 @@ fn shown(alloc: Global, order: Result<Order, WordsError>) -> Result<String, Allo
 }
 
 /// Words, and the orders that they give.
-const ORDERS: [(&str, &str); 9] = [
+const ORDERS: [(&str, &str); 11] = [
     (
         "compile a.pan a.img",
         "compile a.pan a.img: 65536 65536 1000000 Code",
@@ -84,6 +85,8 @@ const ORDERS: [(&str, &str); 9] = [
         "check --stack: 16 65536 1000000 Code",
     ),
     ("check a.pan --local 4", "Usage"),
+    ("bound a.pan", "bound a.pan: 65536 65536 1000000 Code"),
+    ("bound a.pan a.img", "Usage"),
 ];
 
 #[test]

@@ -1,6 +1,6 @@
 //! The words of expressions.
 
-ghost use Rattle.std.specs.Prelude.{◌≡◌, true, map, reverse, IfOk};
+ghost use Rattle.std.specs.Prelude.{◌≡◌, true, map, IfOk};
 ghost use Rattle.std.specs.List.{list_all};
 ghost use Rattle.pan_base.specs.declared.operators.BinOp.TheVariants as bin_op;
 ghost use Rattle.crep_lang.specs.declared.syntax.Expr.TheVariants as e;
@@ -8,6 +8,8 @@ ghost use Rattle.crep_flatten.specs.Flat as flat;
 ghost use Rattle.crep_flatten.specs.Flattened.{rows_of};
 ghost use Rattle.crep_flatten.specs.Literals.{fits};
 
+use crate::few::Few;
+use crate::lists::reversed;
 use crate::parts::{loaded, loaded_word, one, parts_at, variable, variable_word};
 use crate::rows::{Row, first_word};
 use crate::scopes::Scopes;
@@ -26,7 +28,7 @@ const BYTES_IN_WORD: u64 = 8;
 #[derive(Drop)]
 pub struct Flat {
     pub shape: Shape,
-    pub rows: List<Row>,
+    pub rows: Few<Row>,
 }
 
 /// The words of an expression. `NoMemory` also stands for numbers that no checked program has: of 2^32 words or more, and shifts by
@@ -115,7 +117,7 @@ fn flatten_struct(alloc: Global, parts: &[Expr], here: &Scopes<'_>) -> Result<Fl
     ensures fits { IfOk result (λ _. list_all fits parts.now ≡ true) }
 {
     let mut shapes = List::new(alloc);
-    let mut rows = List::new(alloc);
+    let mut rows = Few::new(alloc);
     for part in parts {
         let words = flatten_expr(alloc, part, here)?;
         shapes.push(words.shape)?;
@@ -165,17 +167,6 @@ fn negated(alloc: Global, word: Boxed<Word>) -> Result<Word, NoMemory>
     Ok(Word::Bin(BinOp::Sub, Boxed::new(alloc, Word::Num(0))?, word))
 }
 
-/// Terms from the last to the first.
-fn reversed(alloc: Global, mut terms: List<(BinOp, Word)>) -> Result<List<(BinOp, Word)>, NoMemory>
-    ensures { IfOk result (λ all. all ≡ reverse terms) }
-{
-    let mut all = List::new(alloc);
-    while let Some(term) = terms.pop() {
-        all.push(term)?;
-    }
-    Ok(all)
-}
-
 /// The word of operators one after another, from the left.
 fn chained(alloc: Global, first: Word, terms: List<(BinOp, Word)>) -> Result<Word, NoMemory>
     ensures { IfOk result (λ w. w ≡ flat.chain first terms) }
@@ -204,11 +195,11 @@ fn shifted(alloc: Global, word: Word, amounts: &[(ShOp, u64)]) -> Result<Word, N
 }
 
 /// The words of several expressions, one after another.
-pub fn flatten_rows(alloc: Global, exprs: &[Expr], here: &Scopes<'_>) -> Result<List<Row>, NoMemory>
+pub fn flatten_rows(alloc: Global, exprs: &[Expr], here: &Scopes<'_>) -> Result<Few<Row>, NoMemory>
     ensures rows { IfOk result (λ rs. rs ≡ rows_of (map (λ v. flat.flat v here.now) exprs.now)) }
     ensures fits { IfOk result (λ _. list_all fits exprs.now ≡ true) }
 {
-    let mut rows = List::new(alloc);
+    let mut rows = Few::new(alloc);
     for expr in exprs {
         let words = flatten_expr(alloc, expr, here)?;
         rows.append(words.rows)?;

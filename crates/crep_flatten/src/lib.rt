@@ -3,9 +3,11 @@
 
 mod call_parts;
 mod exprs;
+mod few;
 mod flattening;
 mod functions;
 mod laws;
+mod lists;
 mod moving;
 mod parts;
 mod plain;

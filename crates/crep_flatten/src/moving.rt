@@ -7,6 +7,8 @@ ghost use Rattle.crep_flatten.specs.Rows.{variables};
 ghost use Rattle.crep_flatten.specs.Reads as reads;
 ghost use Rattle.crep_flatten.specs.Flattened as flattened;
 
+use crate::few::Few;
+use crate::lists::reversed;
 use crate::rows::{Row, far};
 use crate::settling::{Settled, push_variables, settle};
 use crep_lang::{Expr, Stmt};
@@ -35,15 +37,17 @@ fn count_of(words: &[Expr]) -> Result<u32, NoMemory>
 
 /// Each word goes to the next variable, from a first one on; these assignments come behind some statements.
 pub fn push_assigns(
+    alloc: Global,
     stmts: &mut List<Stmt>,
     first: u32,
-    mut words: List<Expr>,
+    words: List<Expr>,
 ) -> Result<(), NoMemory>
     ensures { OnOk result (stmts.new ≡ stmts.old ++ flattened.assign_row first words) }
 {
     let mut variable = first;
-    while !words.is_empty() {
-        stmts.push(Stmt::Assign(variable, words.remove(0)))?;
+    let mut left = reversed(alloc, words)?;
+    while let Some(word) = left.pop() {
+        stmts.push(Stmt::Assign(variable, word))?;
         variable = next_after(variable)?;
     }
     Ok(())
@@ -54,14 +58,15 @@ fn push_stores(
     alloc: Global,
     stmts: &mut List<Stmt>,
     address: u32,
-    mut words: List<Expr>,
+    words: List<Expr>,
 ) -> Result<(), NoMemory>
     ensures { OnOk result (stmts.new ≡ stmts.old ++ flattened.store_row (e.Var address) 0 words) }
 {
     let mut skip: u32 = 0;
-    while !words.is_empty() {
+    let mut left = reversed(alloc, words)?;
+    while let Some(word) = left.pop() {
         let to = far(alloc, Expr::Var(address), skip)?;
-        stmts.push(Stmt::StoreWord(to, words.remove(0)))?;
+        stmts.push(Stmt::StoreWord(to, word))?;
         skip = next_after(skip)?;
     }
     Ok(())
@@ -130,12 +135,18 @@ fn push_move(stmts: &mut List<Stmt>, variable: u32, word: Expr) -> Result<(), No
 /// Each word goes to the next variable, from a first one on, which isn't given what it has; these assignments come behind some
 /// statements.
 #[tactic(auto, using(crate::proofs::MovedWords::move_rules))]
-fn push_moves(stmts: &mut List<Stmt>, first: u32, mut words: List<Expr>) -> Result<(), NoMemory>
+fn push_moves(
+    alloc: Global,
+    stmts: &mut List<Stmt>,
+    first: u32,
+    words: List<Expr>,
+) -> Result<(), NoMemory>
     ensures { OnOk result (stmts.new ≡ stmts.old ++ flattened.moves first words) }
 {
     let mut variable = first;
-    while !words.is_empty() {
-        push_move(stmts, variable, words.remove(0))?;
+    let mut left = reversed(alloc, words)?;
+    while let Some(word) = left.pop() {
+        push_move(stmts, variable, word)?;
         variable = next_after(variable)?;
     }
     Ok(())
@@ -155,7 +166,7 @@ fn push_held(
     let count = count_of(words.as_slice())?;
     let mut held = List::new(alloc);
     push_variables(&mut held, free, count)?;
-    push_assigns(stmts, free, words)?;
+    push_assigns(alloc, stmts, free, words)?;
     Ok(held)
 }
 
@@ -171,17 +182,17 @@ fn push_moved(
     ensures { OnOk result (stmts.new ≡ stmts.old ++ flattened.moved first words free) }
 {
     if go_straight(first, words.as_slice()) {
-        return push_moves(stmts, first, words);
+        return push_moves(alloc, stmts, first, words);
     }
     let held = push_held(alloc, stmts, free, words)?;
-    push_assigns(stmts, first, held)
+    push_assigns(alloc, stmts, first, held)
 }
 
 /// The words of rows go to the variables from a first one on. Variables from a free one on hold what is needed again.
 pub fn assigned(
     alloc: Global,
     first: u32,
-    rows: List<Row>,
+    rows: Few<Row>,
     free: u32,
 ) -> Result<List<Stmt>, NoMemory>
     ensures { IfOk result (λ ss. ss ≡ flattened.assigned first rows free) }
@@ -242,7 +253,7 @@ fn push_stored(
 pub fn stored(
     alloc: Global,
     address: Expr,
-    rows: List<Row>,
+    rows: Few<Row>,
     free: u32,
 ) -> Result<List<Stmt>, NoMemory>
     ensures { IfOk result (λ ss. ss ≡ flattened.stored address rows free) }

@@ -6,11 +6,12 @@ ghost use Rattle.pan_tree.specs.Shapes.{words_of, parts_of};
 ghost use Rattle.crep_flatten.specs.Flat as flat;
 
 use crate::exprs::Flat;
+use crate::few::Few;
 use crate::rows::{Row, cut};
 use crate::scopes::Place;
 use crate::shaping::{parts_of, size, spread};
 use crep_lang::Expr;
-use pan_base::{Boxed, List, NoMemory, single};
+use pan_base::{Boxed, List, NoMemory};
 use pan_tree::{Shape, copy_shape};
 use std::alloc::Global;
 
@@ -20,7 +21,7 @@ pub fn one(alloc: Global, word: Expr) -> Result<Flat, NoMemory>
 {
     Ok(Flat {
         shape: Shape::Word,
-        rows: single(alloc, Row::One(word))?,
+        rows: Few::one(alloc, Row::One(word)),
     })
 }
 
@@ -34,7 +35,7 @@ pub fn variable(alloc: Global, place: Option<&Place>) -> Result<Flat, NoMemory>
             let count = size(&place.shape)?;
             Ok(Flat {
                 shape: copy_shape(alloc, &place.shape)?,
-                rows: single(alloc, Row::Variables(place.first, count))?,
+                rows: Few::one(alloc, Row::Variables(place.first, count)),
             })
         }
     }
@@ -63,7 +64,7 @@ pub fn loaded(alloc: Global, shape: &Shape, address: Expr) -> Result<Flat, NoMem
     let count = size(shape)?;
     Ok(Flat {
         shape: spread(alloc, shape)?,
-        rows: single(alloc, Row::Loads(address, 0, count))?,
+        rows: Few::one(alloc, Row::Loads(address, 0, count)),
     })
 }
 

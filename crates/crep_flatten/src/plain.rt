@@ -69,7 +69,7 @@ pub fn flatten_decl<'p>(
         words,
         next: _,
     } = settle(alloc, rows, free)?;
-    push_assigns(&mut stmts, first, words)?;
+    push_assigns(alloc, &mut stmts, first, words)?;
     here.declare(name, shape)?;
     Ok(Stmt::Seq(stmts))
 }

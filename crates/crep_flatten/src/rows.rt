@@ -4,8 +4,9 @@ ghost use Rattle.std.specs.Prelude.{◌≡◌, ◌++◌, IfOk};
 ghost use Rattle.crep_flatten.specs.Flat as flat;
 ghost use Rattle.crep_flatten.specs.Rows as rows_of;
 
+use crate::few::Few;
 use crep_lang::Expr;
-use pan_base::{BinOp, Boxed, List, NoMemory};
+use pan_base::{BinOp, Boxed, NoMemory};
 use std::alloc::Global;
 
 /// Words one after another.
@@ -17,6 +18,13 @@ pub enum Row {
     Loads(Expr, u32, u32),
     /// One word.
     One(Expr),
+}
+
+impl Default for Row {
+    /// No words.
+    fn default() -> Row {
+        Row::Variables(0, 0)
+    }
 }
 
 /// The address so many words on.
@@ -35,11 +43,13 @@ pub fn far(alloc: Global, address: Expr, words: u32) -> Result<Expr, NoMemory>
 }
 
 /// The first word of rows, or 0 where there is none.
-pub fn first_word(alloc: Global, mut rows: List<Row>) -> Result<Expr, NoMemory>
+#[tactic(auto, using(crate::proofs::FirstWords::first_rules))]
+pub fn first_word(alloc: Global, rows: Few<Row>) -> Result<Expr, NoMemory>
     ensures { IfOk result (λ e. e ≡ flat.first_of (rows_of.inlined rows)) }
 {
-    while !rows.is_empty() {
-        match rows.remove(0) {
+    let mut left = rows.into_iter();
+    while let Some(row) = left.next() {
+        match row {
             Row::Variables(first, count) => {
                 if count > 0 {
                     return Ok(Expr::Var(first));
@@ -71,7 +81,7 @@ impl Row {
 }
 
 /// So many words of a row, behind so many others, come behind some rows.
-fn push_part(kept: &mut List<Row>, row: Row, skip: u32, count: u32) -> Result<(), NoMemory>
+fn push_part(kept: &mut Few<Row>, row: Row, skip: u32, count: u32) -> Result<(), NoMemory>
     ensures { IfOk result (λ _. kept.new ≡ kept.old ++ rows_of.cut_row skip count row) }
 {
     match row {
@@ -99,14 +109,14 @@ fn push_part(kept: &mut List<Row>, row: Row, skip: u32, count: u32) -> Result<()
 }
 
 /// Of rows so many words behind so many others.
-pub fn cut(alloc: Global, mut rows: List<Row>, skip: u32, count: u32) -> Result<List<Row>, NoMemory>
+pub fn cut(alloc: Global, rows: Few<Row>, skip: u32, count: u32) -> Result<Few<Row>, NoMemory>
     ensures { IfOk result (λ rs. rs ≡ rows_of.cut_rows skip count rows) }
 {
-    let mut kept = List::new(alloc);
+    let mut kept = Few::new(alloc);
     let mut before = skip;
     let mut wanted = count;
-    while !rows.is_empty() {
-        let row = rows.remove(0);
+    let mut left = rows.into_iter();
+    while let Some(row) = left.next() {
         let size = row.size();
         push_part(&mut kept, row, before, wanted)?;
         wanted = wanted.saturating_sub(size.saturating_sub(before));

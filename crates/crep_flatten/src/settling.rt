@@ -4,6 +4,7 @@ ghost use Rattle.std.specs.Prelude.{◌≡◌, [], ◌∷◌, ◌++◌, IfOk, On
 ghost use Rattle.crep_lang.specs.declared.syntax.Expr.TheVariants as e;
 ghost use Rattle.crep_flatten.specs.Rows as rows_of;
 
+use crate::few::Few;
 use crate::rows::{Row, far};
 use crep_lang::{Expr, Stmt};
 use pan_base::{Boxed, List, NoMemory};
@@ -100,7 +101,7 @@ fn settle_row(
 }
 
 /// Rows with the address of several words of memory in a variable, from a free one on.
-pub fn settle(alloc: Global, mut rows: List<Row>, free: u32) -> Result<Settled, NoMemory>
+pub fn settle(alloc: Global, rows: Few<Row>, free: u32) -> Result<Settled, NoMemory>
     ensures before { IfOk result (λ s. s.before ≡ (rows_of.settle rows free).before) }
     ensures words { IfOk result (λ s. s.words ≡ (rows_of.settle rows free).words) }
     ensures next { IfOk result (λ s. s.next ≡ (rows_of.settle rows free).next) }
@@ -108,8 +109,8 @@ pub fn settle(alloc: Global, mut rows: List<Row>, free: u32) -> Result<Settled, 
     let mut before = List::new(alloc);
     let mut words = List::new(alloc);
     let mut next = free;
-    while !rows.is_empty() {
-        let row = rows.remove(0);
+    let mut left = rows.into_iter();
+    while let Some(row) = left.next() {
         next = settle_row(alloc, &mut before, &mut words, row, next)?;
     }
     Ok(Settled {

@@ -1,40 +1,50 @@
 -- The layout, and the table of labels, made one line after another.
-use Rattle.std.proofs.Common.{◌≡◌, ◌≢◌, ℕ, ◌+◌, ◌*◌, ◌<◌, ◌≤◌, refl, sym, ap, ◌∙◌, subst, Bool, true, false, cond, List, [], ◌∷◌, ◌++◌, append_assoc, length, drop, get_or, set, Option, Some, inr, arith}
+use Rattle.std.proofs.Common.{◌≡◌, ◌≢◌, ℕ, ◌+◌, ◌*◌, ◌<◌, ◌≤◌, refl, sym, ap, ◌∙◌, subst, Bool, true, false, cond, List, [], ◌∷◌, ◌++◌, append_assoc, length, drop, get_or, set, Option, Some, arith}
 use Rattle.std.specs.Prelude.{unwrap_or, slice_index, ◌==◌}
 use Rattle.std.proofs.lemmas.List.{append-nil, drop_more, drop_all, length-set, get_or-set_same, get_or-set_other}
 use Rattle.std.proofs.lemmas.Bool.Decides.{nat_tests}
+use Rattle.pan_stage.specs.Sums.{sum_of}
 use Rattle.lab_lang.specs.declared.syntax.Line.{Line}
 use Rattle.lab_lang.specs.declared.syntax.Line.TheVariants.{Label, Plain, Jump, Branch, CallTo, Address, JumpReg}
-use Rattle.lab_lang.specs.Layout.{IsLayout, address_of, longest, is_label, address}
-use Rattle.lab_link.specs.Longest.{long_layout, IsTable}
-use Rattle.lab_link.proofs.Places.{total, span}
+use Rattle.lab_lang.specs.Layout.{address_of, is_label, address}
+use Rattle.lab_link.specs.Lengths.{laid_out}
+use Rattle.lab_link.specs.Turns.{IsTable}
 
-pub lay_more : (lines : List Line) (i : ℕ) (d : Line) (place n : ℕ) (layout new : List (ℕ × ℕ)) → i < length lines → n ≡ longest (get_or lines i d) → new ≡ layout ++ (place, n) ∷ []
-    → layout ++ long_layout place (drop i lines) ≡ long_layout 0 lines → new ++ long_layout (place + 4 * n) (drop (i + 1) lines) ≡ long_layout 0 lines
-lay_more lines i d place n layout new below count grown so_far =
-    ap (λ l. l ++ long_layout (place + 4 * n) (drop (i + 1) lines)) grown
+-- a line more of a layout of numbers
+pub laid_more : (ns : List ℕ) (i place n : ℕ) (layout new whole : List (ℕ × ℕ)) → i < length ns → n ≡ get_or ns i 0 → new ≡ layout ++ (place, n) ∷ []
+    → layout ++ laid_out place (drop i ns) ≡ whole → new ++ laid_out (place + 4 * n) (drop (i + 1) ns) ≡ whole
+laid_more ns i place n layout new whole below count grown so_far =
+    ap (λ l. l ++ laid_out (place + 4 * n) (drop (i + 1) ns)) grown
     ∙ append_assoc layout ((place, n) ∷ []) _
-    ∙ ap (λ m. layout ++ (place, m) ∷ long_layout (place + 4 * m) (drop (i + 1) lines)) count
-    ∙ ap (λ ls. layout ++ long_layout place ls) (sym (drop_more lines i d below))
+    ∙ ap (λ m. layout ++ (place, m) ∷ laid_out (place + 4 * m) (drop (i + 1) ns)) count
+    ∙ ap (λ ls. layout ++ laid_out place ls) (sym (drop_more ns i 0 below))
     ∙ so_far
 
-pub span_more : (lines : List Line) (i : ℕ) (d : Line) → i < length lines → span (drop i lines) ≡ longest (get_or lines i d) + span (drop (i + 1) lines)
-span_more lines i d below = ap span (drop_more lines i d below)
+pub laid_all : (ns : List ℕ) (i place : ℕ) (layout whole : List (ℕ × ℕ)) → length ns ≤ i → layout ++ laid_out place (drop i ns) ≡ whole → layout ≡ whole
+laid_all ns i place layout whole past so_far = sym (append-nil layout) ∙ ap (λ ls. layout ++ laid_out place ls) (sym (drop_all i ns past)) ∙ so_far
 
-pub lay_all : (lines : List Line) (i place : ℕ) (layout : List (ℕ × ℕ)) → length lines ≤ i → layout ++ long_layout place (drop i lines) ≡ long_layout 0 lines → layout ≡ long_layout 0 lines
-lay_all lines i place layout past so_far = sym (append-nil layout) ∙ ap (λ ls. layout ++ long_layout place ls) (sym (drop_all i lines past)) ∙ so_far
+sum_more : (ns : List ℕ) (i : ℕ) → i < length ns → sum_of (drop i ns) ≡ get_or ns i 0 + sum_of (drop (i + 1) ns)
+sum_more ns i below = ap sum_of (drop_more ns i 0 below)
 
-pub is_layout : (place : ℕ) (lines : List Line) → IsLayout place lines (long_layout place lines)
-is_layout place [] = tt
-is_layout place (x ∷ xs) = (refl, inr refl, is_layout (place + 4 * longest x) xs)
+sum_all : (ns : List ℕ) (i : ℕ) → length ns ≤ i → sum_of (drop i ns) ≡ 0
+sum_all ns i past = ap sum_of (drop_all i ns past)
 
-pub layout_total : (place : ℕ) (lines : List Line) → total (long_layout place lines) ≡ span lines
-layout_total place [] = refl
-layout_total place (x ∷ xs) = ap (λ n. longest x + n) (layout_total (place + 4 * longest x) xs)
+-- so many lines are laid out, by these numbers
+pub record IsLaid (ns : List ℕ) (i place : ℕ) (layout : List (ℕ × ℕ)) : Type 0 where
+  pub made : layout ++ laid_out place (drop i ns) ≡ laid_out 0 ns
+  pub left : place + 4 * sum_of (drop i ns) ≡ 4 * sum_of ns
 
-pub layout_length : (place : ℕ) (lines : List Line) → length (long_layout place lines) ≡ length lines
-layout_length place [] = refl
-layout_length place (x ∷ xs) = let e = layout_length (place + 4 * longest x) xs in omega arith
+pub none_laid : (ns : List ℕ) → IsLaid ns 0 0 []
+none_laid ns = record { made = refl; left = omega arith }
+
+pub one_laid : (ns : List ℕ) (i place n : ℕ) (layout new : List (ℕ × ℕ)) → i < length ns → n ≡ get_or ns i 0 → new ≡ layout ++ (place, n) ∷ [] → IsLaid ns i place layout → IsLaid ns (i + 1) (place + 4 * n) new
+one_laid ns i place n layout new below count grown h = record {
+  made = laid_more ns i place n layout new (laid_out 0 ns) below count grown h.made;
+  left = let a = sum_more ns i below in let b = h.left in omega arith;
+}
+
+pub all_laid : (ns : List ℕ) (i place : ℕ) (layout : List (ℕ × ℕ)) → length ns ≤ i → IsLaid ns i place layout → (layout ≡ laid_out 0 ns) × (place ≡ 4 * sum_of ns)
+all_laid ns i place layout past h = (laid_all ns i place layout (laid_out 0 ns) past h.made, let a = sum_all ns i past in let b = h.left in omega arith)
 
 -- ---- the table
 

@@ -2,7 +2,10 @@ pub mod Places
 pub mod Jumps
 pub mod Simulation
 pub mod Whole
+pub mod Counting
+pub mod Needed
 pub mod Laying
 pub mod Emitting
+pub mod Turning
 pub mod Joining
 pub mod Filling

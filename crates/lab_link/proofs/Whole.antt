@@ -13,6 +13,7 @@ use Rattle.machine_start.specs.Start.{started}
 use Rattle.lab_lang.specs.declared.syntax.LabFun.{LabFun}
 use Rattle.lab_lang.specs.declared.syntax.Line.{Line}
 use Rattle.lab_link.specs.Lowered.{all_lowered}
+use Rattle.lab_link.specs.Lengths.{AreFit}
 use Rattle.lab_link.specs.Linked.{IsLinked}
 use Rattle.lab_link.proofs.Places.{total, have_words}
 use Rattle.lab_link.proofs.Simulation.{until}
@@ -28,12 +29,13 @@ boot p parts code m size is_code is_names no_globals =
     ∙ ap (λ ns. record s { code = code; names = ns }) is_names
     ∙ ap (λ g. record s { code = code; names = p.names; memory = record s.memory { globals = words_bytes g } }) (sym no_globals)
 
-pub linked : (p : Program LabFun) (lines : List Line) (layout : List (ℕ × ℕ)) (code : List ℕ) → IsLayout 0 lines layout → 4 * total layout ≤ 0x30000000
+pub linked : (p : Program LabFun) (lines : List Line) (layout : List (ℕ × ℕ)) (code : List ℕ) → IsLayout 0 lines layout → AreFit lines layout → 4 * total layout ≤ 0x30000000
     → Spells code (all_lowered lines layout (address lines layout)) → length code ≤ (allowed (map (λ (f : LabFun). f.cost) p.functions)).code → IsLinked p lines layout code
-linked p lines layout code laid small spells most =
+linked p lines layout code laid fit small spells most =
     let held : AreAt (all_lowered lines layout (address lines layout)) code (address_of 0) = spelled_at _ code [] code (address_of 0) spells refl refl in
     record {
       laid = laid;
+      fit = fit;
       words = have_words (address lines layout) code 0 lines layout laid held;
       executed = λ parts is_code is_names no_globals size m r k lawful bytes ok.
           ap (λ s. run k s r) (boot p parts code m size is_code is_names no_globals) ∙ until lines layout code laid small held k k (omega arith) (started p m size) (booted_32 p m size) r ok;

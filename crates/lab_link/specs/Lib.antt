@@ -1,3 +1,5 @@
-pub mod Longest
+pub mod Reach
+pub mod Lengths
+pub mod Turns
 pub mod Lowered
 pub mod Linked

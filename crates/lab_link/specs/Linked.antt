@@ -11,6 +11,7 @@ use Rattle.lab_lang.specs.Stage.{stage}
 use Rattle.lab_lang.specs.declared.syntax.LabFun.{LabFun}
 use Rattle.lab_lang.specs.declared.syntax.Line.{Line}
 use Rattle.lab_lang.specs.declared.syntax.Line.TheVariants.{Plain}
+use Rattle.lab_link.specs.Lengths.{AreFit}
 
 -- a line that is an instruction has its word at the address
 abbrev pub HasWord : Line → List ℕ → ℕ → Type 0
@@ -26,6 +27,8 @@ HaveWords (x ∷ xs) (y ∷ ys) code = HasWord x code (address_of y.0) × HaveWo
 pub record IsLinked (p : Program LabFun) (lines : List Line) (layout : List (ℕ × ℕ)) (code : List ℕ) : Type 0 where
   -- the layout is one of the lines
   pub laid : IsLayout 0 lines layout
+  -- each line is as short as it can be: a short one reaches its label, and a long one wouldn't, if it alone were short
+  pub fit : AreFit lines layout
   -- the word at the place of each plain line is that of its instruction
   pub words : HaveWords lines layout code
   -- The machine of an image with this code and the program's names does what the lines do, wherever these don't fail. Since the machine has no globals, the program must have none.

@@ -1,45 +1,75 @@
 //! Where lines and labels stand.
 
-ghost use Rattle.std.specs.Prelude.{◌≡◌, ◌≤◌, length, IfOk};
+ghost use Rattle.std.specs.Prelude.{◌≡◌, ℕ, ◌*◌, ◌<◌, ◌≤◌, length, map, Option, IfOk, slice_index};
 ghost use Rattle.std.specs.List.{All};
-ghost use Rattle.lab_lang.specs.Layout.{address, longest};
+ghost use Rattle.pan_stage.specs.Sums.{sum_of};
+ghost use Rattle.lab_lang.specs.Layout.{address, shortest};
 ghost use Rattle.lab_lang.specs.Needs.{code};
 ghost use Rattle.lab_lang.specs.WellFormed.{IsLine};
-ghost use Rattle.lab_link.specs.Longest.{IsTable, long_layout};
+ghost use Rattle.lab_link.specs.Lengths.{laid_out};
+ghost use Rattle.lab_link.specs.Turns.{IsTable, AreCounts, lengthened};
 
+use crate::reach::{does_reach, longest_of, shortest_of};
 use lab_lang::Line;
 use pan_base::{List, NoMemory};
 use std::alloc::Global;
 
-/// How many instructions a line has at most.
-fn longest_of(line: &Line) -> u32
-    ensures { result ≡ longest line.now }
-{
-    match line {
-        Line::Label(_) => 0,
-        Line::Plain(_) => 1,
-        Line::Jump(_) => 2,
-        Line::Branch(_, _, _, _) => 3,
-        Line::CallTo(_) => 2,
-        Line::Address(_, _) => 2,
-        Line::JumpReg(_) => 1,
-    }
+/// Where lines stand.
+#[derive(Drop)]
+pub struct Laid {
+    /// The place, in bytes of code, and the number of instructions of each line.
+    pub layout: List<(u32, u32)>,
+    /// The bytes of all.
+    pub size: u32,
 }
 
-/// The place, in bytes of code, and the number of instructions of each line, where all are at their longest. `NoMemory` is
-/// the one error.
-pub fn lay(alloc: Global, lines: &[Line]) -> Result<List<(u32, u32)>, NoMemory>
+/// The layout where each line is at its shortest. `NoMemory` is the one error.
+pub fn lay(alloc: Global, lines: &[Line]) -> Result<Laid, NoMemory>
     requires { code lines.now ≤ 268439552 }
-    ensures { IfOk result (λ layout. layout ≡ long_layout 0 lines.now) }
+    ensures layout { IfOk result (λ laid. laid.layout ≡ laid_out 0 (map shortest lines.now)) }
+    ensures size { IfOk result (λ laid. laid.size ≡ 4 * sum_of (map shortest lines.now)) }
 {
     let mut layout = List::new(alloc);
-    let mut place = 0;
+    let mut size = 0;
     for line in lines {
-        let count = longest_of(line);
-        layout.push((place, count))?;
-        place += 4 * count;
+        let count = shortest_of(line);
+        layout.push((size, count))?;
+        size += 4 * count;
     }
-    Ok(layout)
+    Ok(Laid { layout, size })
+}
+
+/// The layout where those lines are long too that don't reach their labels in the one that is passed. `NoMemory` is the one
+/// error.
+pub fn lengthen(
+    alloc: Global,
+    lines: &[Line],
+    layout: &[(u32, u32)],
+    table: &[u32],
+) -> Result<Laid, NoMemory>
+    requires lines { All (IsLine (length table.now)) lines.now }
+    requires layout { (counts : List ℕ) × AreCounts lines.now counts × (layout.now ≡ laid_out 0 counts) }
+    requires most { code lines.now ≤ 268439552 }
+    requires near { (l : ℕ) → l < length table.now → slice_index table.now l ≤ 0x30000000 }
+    ensures layout { IfOk result (λ laid. (f : ℕ → Option ℕ) → IsTable f table.now → laid.layout ≡ laid_out 0 (lengthened lines.now layout.now f)) }
+    ensures size { IfOk result (λ laid. (f : ℕ → Option ℕ) → IsTable f table.now → laid.size ≡ 4 * sum_of (lengthened lines.now layout.now f)) }
+{
+    let mut longer = List::new(alloc);
+    let mut size = 0;
+    for i in 0..lines.len() {
+        let (place, count) = layout[i];
+        let needed = if does_reach(&lines[i], place, table) {
+            count
+        } else {
+            longest_of(&lines[i])
+        };
+        longer.push((size, needed))?;
+        size += 4 * needed;
+    }
+    Ok(Laid {
+        layout: longer,
+        size,
+    })
 }
 
 /// The place of each label, and 0 for one that stands nowhere. Of two places of a label the first one counts. `NoMemory`

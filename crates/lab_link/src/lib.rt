@@ -2,8 +2,10 @@
 #![tactic(auto)]
 
 mod emit;
+mod growing;
 mod layout;
 mod linking;
+mod reach;
 #[cfg(test)]
 mod tests;
 

@@ -10,13 +10,15 @@ use Rattle.pan_command.specs.Check.{CheckEnds}
 use Rattle.pan_command.specs.Run.{RunEnds}
 use Rattle.pan_command.specs.Meaning.{MeaningEnds}
 use Rattle.pan_command.specs.Show.{ShowEnds}
+use Rattle.pan_command.specs.Bound.{BoundEnds}
 use Rattle.pan_command.specs.Dis.{DisEnds}
-use Rattle.pan_command.specs.Promises.{CompileKeeps, CheckKeeps, RunKeeps, MeaningKeeps, ShowKeeps, DisKeeps}
+use Rattle.pan_command.specs.Promises.{CompileKeeps, CheckKeeps, RunKeeps, MeaningKeeps, ShowKeeps, DisKeeps, BoundKeeps}
 use Rattle.pan_command.proofs.CompileCompleteness as compiling
 use Rattle.pan_command.proofs.CheckCompleteness as checking
 use Rattle.pan_command.proofs.RunCompleteness as running
 use Rattle.pan_command.proofs.MeaningCompleteness as meaning
 use Rattle.pan_command.proofs.ShowCompleteness as showing
+use Rattle.pan_command.proofs.BoundCompleteness as bounding
 use Rattle.pan_command.proofs.DisCompleteness as listing
 
 pub compile_keeps : (source image : List ℕ) (call : Call) (s : Status) → CompileEnds source image call s → CompileKeeps source image call (code s)
@@ -80,4 +82,12 @@ dis_keeps image call s h = record {
   complete = λ files parts fine has. listing.listed_ends call files image fine has.0 has.1 parts has.2 s h.1;
   refuses = λ files bytes fine there wrong. listing.refused_ends call files image fine bytes there wrong s h.1;
   missing = λ files fine gone. listing.missing_ends call files image fine gone s h.1;
+}
+
+pub bound_keeps : (source : List ℕ) (call : Call) (s : Status) → BoundEnds source call s → BoundKeeps source call (code s)
+bound_keeps source call s h = record {
+  ends = (s, refl, h);
+  complete = λ files program fine has. bounding.passed_ends call files source fine has.0 has.1 program has.2 s h.1;
+  refuses = λ files reason fine has. bounding.unpassed_ends call files source fine has.0 has.1 reason has.2 s h.1;
+  missing = λ files fine gone. bounding.missing_ends call files source fine gone s h.1;
 }

@@ -16,6 +16,7 @@ pub mod CheckCompleteness
 pub mod RunCompleteness
 pub mod MeaningCompleteness
 pub mod ShowCompleteness
+pub mod BoundCompleteness
 pub mod DisCompleteness
 pub mod Keeping
 pub mod WrongImage

@@ -10,6 +10,7 @@ use Rattle.image_file.specs.Faults.{fault_of}
 use Rattle.image_file.specs.declared.error.ImageError.{ImageError}
 use Rattle.image_file.specs.declared.error.ImageError.TheVariants as fault
 use Rattle.pan_agree.specs.Faithful.{Faithful}
+use Rattle.pan_driver.specs.Bounded.{IsBoundOf}
 use Rattle.pan_driver.specs.Chained.{parts, Chained}
 use Rattle.pan_driver.specs.Errors.{source_error, Unbuilt}
 use Rattle.pan_driver.specs.InTime.{IsInTime, IsShort}
@@ -31,8 +32,8 @@ pub record OneReading : Type 0 where
 
 -- the source was built
 pub built_so : OneReading → (bytes : List ℕ) (stages : Stages) (image : List ℕ) → Chained bytes stages image → Faithful stages.checked image (parts stages) → IsInTime stages.checked (parts stages)
-    → IsShort stages.checked (parts stages) → IsBuilt bytes stages image
-built_so one bytes stages image chained faithful in_time short = record {
+    → IsShort stages.checked (parts stages) → IsBoundOf stages.checked (parts stages) stages.bound → IsBuilt bytes stages image
+built_so one bytes stages image chained faithful in_time short bounded = record {
   source = record {
     checked = chained.checked;
     only = λ p s. one.program bytes p stages.checked s chained.checked;
@@ -42,6 +43,7 @@ built_so one bytes stages image chained faithful in_time short = record {
   faithful = faithful;
   in_time = in_time;
   short = short;
+  bounded = bounded;
 }
 
 -- it was not built

@@ -4,6 +4,7 @@ use Rattle.std.specs.Prelude.{◌⊎◌}
 use Rattle.pan_base.specs.Causes.{Rose}
 use Rattle.pan_base.specs.Files.{Files, NoneChanged, Stored, StoredBelow}
 use Rattle.pan_base.specs.Sinks.{Took, TookFront}
+use Rattle.pan_driver.specs.Chained.{parts}
 use Rattle.pan_command.specs.declared.status.Status.{Status}
 use Rattle.pan_command.specs.declared.status.Status.TheVariants as status
 use Rattle.pan_command.specs.Building.{SourceBuilt}
@@ -37,7 +38,7 @@ module _ (before mid after : Outside) (source name : List ℕ) (made : SourceBui
   wrote : Rose (mid.files).failed_writes (after.files).failed_writes → Rose (before.files).failed_writes (after.files).failed_writes
   wrote h = subst (λ n. Rose n (after.files).failed_writes) writes h
 
-  pub compile_ends : (s : Status) → StoreEnds name made.image (between mid after) s → CompileEnds source name (between before after) s
+  pub compile_ends : (s : Status) → StoreEnds (parts made.stages).bound name made.image (between mid after) s → CompileEnds source name (between before after) s
   compile_ends status.Done h = record { built = made; stored = stored_after _ _ _ _ _ same h.0; line = took _ h.1 }
   compile_ends status.Usage h = absurd h
   compile_ends status.NoImage h = absurd h

@@ -21,6 +21,7 @@ module _ (words : List (List ℕ)) (call : Call) where
   starved_in (action.Meaning source script) options same line = (same, inl line)
   starved_in (action.Show source) options same line = (same, line)
   starved_in (action.Dis image) options same line = (same, line)
+  starved_in (action.Bound source) options same line = (same, line)
 
   -- with lawful words of an action the call ends as the action does
   pub acts : (a : Action) (options : Options) (s : Status) → AreWordsOf words a options → Ends words call s → ActionEnds a options call s
@@ -37,6 +38,7 @@ module _ (words : List (List ℕ)) (call : Call) where
   no_usage (action.Meaning source script) options h = h.1
   no_usage (action.Show source) options h = h.1
   no_usage (action.Dis image) options h = h.1
+  no_usage (action.Bound source) options h = h.1
 
   not_two : (end : End) → end_code end ≡ 2 → ⊥
   not_two (told_end.Exit n) e = cc
@@ -97,6 +99,7 @@ module _ (words : List (List ℕ)) (call : Call) where
   unwritten_in (action.Meaning source script) options h = absurd h.1
   unwritten_in (action.Show source) options h = absurd h.1
   unwritten_in (action.Dis image) options h = absurd h.1
+  unwritten_in (action.Bound source) options h = absurd h.1
 
   unput_in : (a : Action) (options : Options) → ActionEnds a options call status.Unput → Failed
   unput_in (action.Compile source image) options h = inr h.cause
@@ -105,6 +108,7 @@ module _ (words : List (List ℕ)) (call : Call) where
   unput_in (action.Meaning source script) options h = inr (h.1).cause
   unput_in (action.Show source) options h = inr (h.1).cause
   unput_in (action.Dis image) options h = inr (h.1).cause
+  unput_in (action.Bound source) options h = inr (h.1).cause
 
   not_seven : (end : End) → end_code end ≡ 7 → ⊥
   not_seven (told_end.Exit n) e = cc

@@ -14,6 +14,7 @@ use Rattle.pan_command.specs.Run.{RunEnds}
 use Rattle.pan_command.specs.Meaning.{MeaningEnds}
 use Rattle.pan_command.specs.Show.{ShowEnds}
 use Rattle.pan_command.specs.Dis.{DisEnds}
+use Rattle.pan_command.specs.Bound.{BoundEnds}
 
 -- the words are lawful words of this action with these options
 abbrev pub AreWordsOf : List (List ℕ) → Action → Options → Type 0
@@ -38,6 +39,7 @@ ActionEnds (action.Run image script) options call s = RunEnds options image scri
 ActionEnds (action.Meaning source script) options call s = MeaningEnds options source script call s
 ActionEnds (action.Show source) options call s = ShowEnds options.stage source call s
 ActionEnds (action.Dis image) options call s = DisEnds image call s
+ActionEnds (action.Bound source) options call s = BoundEnds source call s
 
 -- the words give one order, and its action ended
 pub record OrderEnds (words : List (List ℕ)) (call : Call) (s : Status) : Type 0 where

@@ -54,14 +54,14 @@ CompileEnds source image call status.Unput = CompileUnput call source image
 CompileEnds source image call status.NoMemory = CompileStarved call source image
 CompileEnds source image call _ = ⊥
 
--- how the writing of an image with no bound ends
-abbrev pub StoreEnds : List ℕ → List ℕ → Call → Status → Type 0
-StoreEnds name image call status.Done = Stored (files_before call) (files_after call) name image × IsPut call (bound_line None)
-StoreEnds name image call status.Unwritten =
+-- how the writing of an image with this bound ends
+abbrev pub StoreEnds : Option ℕ → List ℕ → List ℕ → Call → Status → Type 0
+StoreEnds bound name image call status.Done = Stored (files_before call) (files_after call) name image × IsPut call (bound_line bound)
+StoreEnds bound name image call status.Unwritten =
     WriteFailed call × StoredInPart (files_before call) (files_after call) name image × IsPut call (codes "write " ++ name ++ codes "\n")
-StoreEnds name image call status.Unput =
+StoreEnds bound name image call status.Unput =
     PutFailed call
-    × ((Stored (files_before call) (files_after call) name image × IsPutInPart call (bound_line None))
+    × ((Stored (files_before call) (files_after call) name image × IsPutInPart call (bound_line bound))
     ⊎ (WriteFailed call × StoredInPart (files_before call) (files_after call) name image × IsPutInPart call (codes "write " ++ name ++ codes "\n")))
-StoreEnds name image call status.NoMemory = StoredShort (files_before call) (files_after call) name image × IsPut call []
-StoreEnds name image call _ = ⊥
+StoreEnds bound name image call status.NoMemory = StoredShort (files_before call) (files_after call) name image × IsPut call []
+StoreEnds bound name image call _ = ⊥

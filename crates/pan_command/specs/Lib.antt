@@ -8,6 +8,7 @@ pub mod Compile
 pub mod Run
 pub mod Meaning
 pub mod Show
+pub mod Bound
 pub mod Dis
 pub mod Loading
 pub mod Command

@@ -24,6 +24,7 @@ use Rattle.pan_command.specs.Run.{RunEnds, image_goes, image_line}
 use Rattle.pan_command.specs.Meaning.{MeaningEnds, source_goes}
 use Rattle.pan_command.specs.Show.{Shown, ShowEnds}
 use Rattle.pan_command.specs.Dis.{DisEnds}
+use Rattle.pan_command.specs.Bound.{BoundShown, BoundEnds}
 
 -- In what follows `status` is the exit status, and `files` are those that were there, where they are told and no fault of
 -- the outside came.
@@ -110,6 +111,17 @@ pub record ShowKeeps (stage : Stage) (source : List ℕ) (call : Call) (status :
   -- of each source that keeps every rule the stage is put, each other one is refused for its reason, and a missing one gives 3
   pub complete : (files : Files) (program : Program) → IsUndisturbed call files
       → Has files source (λ bytes. IsChecked bytes program) → OrStarved status ((status ≡ 0) × Shown stage (IsPut call) call.before source)
+  pub refuses : (files : Files) (reason : SourceError) → IsUndisturbed call files
+      → Has files source (λ bytes. Unchecked bytes reason) → OrStarved status ((status ≡ 4) × IsPut call (source_line reason))
+  pub missing : (files : Files) → IsUndisturbed call files → files source ≡ None → OrStarved status (status ≡ 3)
+
+-- what is promised of `bound`
+pub record BoundKeeps (source : List ℕ) (call : Call) (status : ℕ) : Type 0 where
+  -- it ends in one of its ways, and no file changes
+  pub ends : (s : Status) × (status ≡ code s) × BoundEnds source call s
+  -- of each source that keeps every rule the bound is put, each other one is refused for its reason, and a missing one gives 3
+  pub complete : (files : Files) (program : Program) → IsUndisturbed call files
+      → Has files source (λ bytes. IsChecked bytes program) → OrStarved status ((status ≡ 0) × BoundShown (IsPut call) call.before source)
   pub refuses : (files : Files) (reason : SourceError) → IsUndisturbed call files
       → Has files source (λ bytes. Unchecked bytes reason) → OrStarved status ((status ≡ 4) × IsPut call (source_line reason))
   pub missing : (files : Files) → IsUndisturbed call files → files source ≡ None → OrStarved status (status ≡ 3)

@@ -2,14 +2,15 @@
 
 ghost use Rattle.std.specs.Prelude.{◌≡◌, ◌⊎◌, List, ℕ, codes};
 ghost use Rattle.command_words.specs.Words.{IsSize};
-ghost use Rattle.command_words.specs.declared.order.Action.TheVariants.{Compile, Check, Run, Meaning, Show, Dis};
+ghost use Rattle.command_words.specs.declared.order.Action.TheVariants.{Compile, Check, Run, Meaning, Show, Dis, Bound};
 ghost use Rattle.command_words.specs.declared.order.Options.{Options as IsOptions};
 ghost use Rattle.pan_command.specs.declared.status.Status.{Status as IsStatus};
 ghost use Rattle.pan_command.specs.Status.{code};
 ghost use Rattle.pan_command.specs.Outside.{the_call, NoFileChanged, IsPut, WriteFailed, PutFailed};
 ghost use Rattle.pan_command.specs.Command.{AreWordsOf, AreUnlawful, ActionEnds, Ends};
-ghost use Rattle.pan_command.specs.Promises.{CompileKeeps, CheckKeeps, RunKeeps, MeaningKeeps, ShowKeeps, DisKeeps};
+ghost use Rattle.pan_command.specs.Promises.{CompileKeeps, CheckKeeps, RunKeeps, MeaningKeeps, ShowKeeps, DisKeeps, BoundKeeps};
 
+use crate::bounding::bound;
 use crate::checking::check;
 use crate::compiling::compile;
 use crate::listing::list_image;
@@ -46,6 +47,7 @@ fn perform<W: Workspace, O: Sink>(
         }
         Action::Show { source } => show(alloc, source.as_str(), options.stage, files, out),
         Action::Dis { image } => list_image(alloc, image.as_str(), files, out),
+        Action::Bound { source } => bound(alloc, source.as_str(), files, out),
     }
 }
 
@@ -73,11 +75,14 @@ fn act<W: Workspace, O: Sink>(alloc: Global, words: &[Text], files: &mut W, out:
 /// - `show SRC` reads the source SRC and puts a stage of it: with `--stage parse` the canonical text of its program, and else
 ///   the listing of its code.
 /// - `dis IMG` reads the image IMG and puts the listing of its code.
+/// - `bound SRC` reads the source SRC and puts how much stack suffices for its image, where the source makes no failing
+///   step, or a cycle of its calls.
 ///
 /// `command_words::read_words` tells how the words are read, and the options: `--stack` and `--local`, bytes of a run's stack
 /// and of local memory, `--steps`, the instructions of `run` and the fuel of `meaning`, and `--stage`. The status is
-/// - 0: the image is written, and `bound none` is put; or the program keeps every rule, and `ok WEIGHT` is put; or the run
-///   ended by an exit, and its lines are put; or the text of the stage or the listing is put;
+/// - 0: the image is written, and `bound BYTES` is put, or `bound none` where its calls have a cycle; or the program keeps
+///   every rule, and `ok WEIGHT` is put; or the run ended by an exit, and its lines are put; or the text of the stage or the
+///   listing is put; or that line of the bound is put, and for a cycle `cycle NAME NAME ..`;
 /// - 2: the words are no action's, and `usage` is put;
 /// - 3: a file could not be read, and `read NAME` is put;
 /// - 4: the source is refused, and `PLACE CAUSE` is put, the place in bytes from 0 on: it has no tokens (`TooLong`,
@@ -114,6 +119,8 @@ pub fn panc<W: Workspace, O: Sink>(alloc: Global, words: &[Text], files: &mut W,
         (source : List ℕ) (options : IsOptions) → AreWordsOf words.now (Show source) options → ShowKeeps options.stage source call result }
     ensures dis { let call = the_call (W.state files.old) (O.state out.old) (W.state files.new) (O.state out.new) in
         (image : List ℕ) (options : IsOptions) → AreWordsOf words.now (Dis image) options → DisKeeps image call result }
+    ensures bound { let call = the_call (W.state files.old) (O.state out.old) (W.state files.new) (O.state out.new) in
+        (source : List ℕ) (options : IsOptions) → AreWordsOf words.now (Bound source) options → BoundKeeps source call result }
     ensures meaning { let call = the_call (W.state files.old) (O.state out.old) (W.state files.new) (O.state out.new) in
         (source script : List ℕ) (options : IsOptions) → AreWordsOf words.now (Meaning source script) options → MeaningKeeps options source script call result }
 {

@@ -3,10 +3,10 @@
 ghost use Rattle.pan_command.specs.Outside.{the_call};
 ghost use Rattle.pan_command.specs.Compile.{CompileEnds, StoreEnds};
 
-use crate::lines::put_line;
+use crate::lines::{put_bound_line, put_line};
 use crate::loading::load_built;
 use crate::status::Status;
-use pan_base::{FileError, Sink, SinkFault, Workspace, put_all};
+use pan_base::{FileError, Sink, SinkFault, Workspace};
 use std::alloc::Global;
 
 /// Writes the image that was built, and puts the line of its bound.
@@ -14,13 +14,14 @@ fn store<W: Workspace, O: Sink>(
     alloc: Global,
     name: &str,
     image: &[u8],
+    bound: Option<u64>,
     files: &mut W,
     out: &mut O,
 ) -> Status
-    ensures { StoreEnds name.now image.now (the_call (W.state files.old) (O.state out.old) (W.state files.new) (O.state out.new)) result }
+    ensures { StoreEnds bound name.now image.now (the_call (W.state files.old) (O.state out.old) (W.state files.new) (O.state out.new)) result }
 {
     match files.write(alloc, name, image) {
-        Ok(()) => match put_all(out, b"bound none\n") {
+        Ok(()) => match put_bound_line(out, bound) {
             Ok(()) => Status::Done,
             Err(SinkFault) => Status::Unput,
         },
@@ -46,5 +47,5 @@ pub fn compile<W: Workspace, O: Sink>(
         Ok(built) => built,
         Err(status) => return status,
     };
-    store(alloc, image, built.image(), files, out)
+    store(alloc, image, built.image(), built.bytes(), files, out)
 }

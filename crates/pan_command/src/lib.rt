@@ -1,6 +1,7 @@
 //! The top call: `panc` on the words of its command line, over any files and any sink of text.
 #![tactic(auto)]
 
+mod bounding;
 mod checking;
 mod command;
 mod compiling;

@@ -4,6 +4,7 @@ ghost use Rattle.std.specs.Prelude.{◌≡◌, ◌++◌, codes};
 ghost use Rattle.pan_base.specs.Causes.{HasCause};
 ghost use Rattle.pan_base.specs.Sinks.{PutsAll};
 ghost use Rattle.pan_command.specs.Check.{weight_line};
+ghost use Rattle.pan_command.specs.Compile.{bound_line};
 ghost use Rattle.pan_command.specs.Reading.{cause_text, script_line, source_line};
 ghost use Rattle.pan_command.specs.Run.{field_text, image_line};
 
@@ -96,6 +97,17 @@ pub fn put_source_line<O: Sink>(out: &mut O, error: SourceError) -> Result<(), S
         out,
         &[number.as_bytes(), b" ", error.cause().as_bytes(), b"\n"],
     )
+}
+
+/// Puts the line of a bound.
+pub fn put_bound_line<O: Sink>(out: &mut O, bound: Option<u64>) -> Result<(), SinkFault>
+    ensures took { PutsAll (O.state out.old) (O.state out.new) result (bound_line bound) }
+    ensures cause { HasCause (O.state out.old).faults (O.state out.new).faults result }
+{
+    match bound {
+        None => put_all(out, b"bound none\n"),
+        Some(bytes) => put_line(out, "bound ", Buffer::new().format(bytes)),
+    }
 }
 
 /// Puts the line of a weight.

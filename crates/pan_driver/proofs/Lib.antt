@@ -1,4 +1,6 @@
 pub mod ForeignNames
 pub mod Homes
 pub mod Whole
+pub mod EnoughStack
+pub mod Bounded
 pub mod Sources

@@ -1,5 +1,5 @@
 -- The kept stages of a build, and its image: each is what its pass may give for the one before it.
-use Rattle.std.specs.Prelude.{◌≡◌, ℕ, ◌+◌, ◌<◌, None, List, [], ◌∷◌, length}
+use Rattle.std.specs.Prelude.{◌≡◌, ℕ, ◌+◌, ◌<◌, Option, Some, None, List, [], ◌∷◌, length}
 use Rattle.std.specs.List.{AllZip}
 use Rattle.pan_flow.specs.Functions.{above, variables}
 use Rattle.pan_stage.specs.Programs.{with_functions}
@@ -18,6 +18,9 @@ use Rattle.reg_alloc.specs.Accepts.{Accepts}
 use Rattle.reg_alloc.specs.Homes.{home_number}
 use Rattle.reg_alloc.specs.Renamed.{rename_function}
 use Rattle.reg_alloc.specs.declared.homes.Colours.{Colours}
+use Rattle.stack_bound.specs.Bounds.{IsAnswer}
+use Rattle.stack_bound.specs.declared.types.Bound.{Bound}
+use Rattle.stack_bound.specs.declared.types.Bound.TheVariants.{Bytes, Cycle}
 use Rattle.stack_lang.specs.Stage as stack_stages
 use Rattle.lab_lang.specs.Layout.{IsLayout}
 use Rattle.lab_lang.specs.Meaning.{behaviour}
@@ -27,9 +30,14 @@ use Rattle.lab_link.specs.Linked.{IsLinked}
 use Rattle.riscv_isa.specs.Image.{ImageParts, ImageOf}
 use Rattle.pan_driver.specs.declared.built.Stages.{Stages}
 
--- the parts of the image: the linked code, the program's foreign names, and no bound
+-- the number of a bound; a cycle has none
+abbrev pub bytes_of : Bound → Option ℕ
+bytes_of (Bytes n) = Some n
+bytes_of (Cycle functions) = None
+
+-- the parts of the image: the linked code, the program's foreign names, and the bound's number, if it has one
 abbrev pub parts : Stages → ImageParts
-parts s = record { code = (s.code).bytes; names = foreign_names s.checked; bound = None }
+parts s = record { code = (s.code).bytes; names = foreign_names s.checked; bound = bytes_of s.bound }
 
 -- The colours give each variable of the function the slot of its number, and the function accepts them: variables that meet have different homes, and those that are across have slots.
 pub record AreColoursOf (f : WordFun) (c : Colours) : Type 0 where
@@ -57,6 +65,8 @@ pub record AreChained (s : Stages) : Type 0 where
   -- at each layout the lines do in steps what that one does, in at least one for each unit of fuel that is taken
   pub lab : (layout : List (ℕ × ℕ)) → IsLayout 0 (s.lab).lines layout → KeepsInSteps (stack_stages.stage (s.stack).program) (lab_stages.stage (s.lab).program (s.lab).lines layout)
   pub fuel : (layout : List (ℕ × ℕ)) → IsLayout 0 (s.lab).lines layout → RunsOnFuel (s.stack).program (behaviour (s.lab).program (s.lab).lines layout)
+  -- the bound is that of the program over frames
+  pub bound : IsAnswer (s.stack).program s.bound
   -- the code is that of the lines
   pub code : IsLinked (s.lab).program (s.lab).lines (s.code).layout (s.code).bytes
 

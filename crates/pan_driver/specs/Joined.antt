@@ -6,6 +6,7 @@ use Rattle.pan_stage.specs.Stage.{KeepsOverStack, KeepsInSteps}
 use Rattle.pan_tree.specs.declared.program.Program.{Program}
 use Rattle.word_lang.specs.Stage as word_stages
 use Rattle.word_lang.specs.declared.program.WordProg.{WordProg}
+use Rattle.stack_bound.specs.Bounds.{IsAnswer}
 use Rattle.stack_lang.specs.Stage as stack_stages
 use Rattle.lab_lang.specs.Layout.{IsLayout}
 use Rattle.lab_lang.specs.Meaning.{behaviour}
@@ -24,6 +25,7 @@ pub record IsRear (words : WordProg) (r : Rear) : Type 0 where
   pub stack : KeepsOverStack (word_stages.stage ((r.middle).homes).program) (stack_stages.stage ((r.back).stack).program)
   pub lab : (layout : List (ℕ × ℕ)) → IsLayout 0 ((r.back).lab).lines layout → KeepsInSteps (stack_stages.stage ((r.back).stack).program) (lab_stages.stage ((r.back).lab).program ((r.back).lab).lines layout)
   pub fuel : (layout : List (ℕ × ℕ)) → IsLayout 0 ((r.back).lab).lines layout → RunsOnFuel ((r.back).stack).program (behaviour ((r.back).lab).program ((r.back).lab).lines layout)
+  pub bound : IsAnswer ((r.back).stack).program (r.back).bound
   pub code : IsLinked ((r.back).lab).program ((r.back).lab).lines ((r.back).code).layout ((r.back).code).bytes
 
 -- all stages of a checked program
@@ -32,4 +34,4 @@ joined p l =
     let front = l.front in
     let middle = (l.rear).middle in
     let back = (l.rear).back in
-    record { checked = p; crep = front.crep; loops = front.loops; words = front.words; colours = middle.colours; homes = middle.homes; stack = back.stack; lab = back.lab; code = back.code }
+    record { checked = p; crep = front.crep; loops = front.loops; words = front.words; colours = middle.colours; homes = middle.homes; stack = back.stack; bound = back.bound; lab = back.lab; code = back.code }

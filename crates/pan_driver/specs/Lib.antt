@@ -2,3 +2,4 @@ pub mod Chained
 pub mod InTime
 pub mod Errors
 pub mod Joined
+pub mod Bounded

@@ -5,6 +5,7 @@ ghost use Rattle.pan_tree.specs.declared.program.Program.{Program};
 ghost use Rattle.front_end.specs.Sources.{IsChecked};
 ghost use Rattle.pan_agree.specs.Faithful.{Faithful};
 ghost use Rattle.pan_driver.specs.Chained.{parts, AreChained, Chained, ChainedFrom};
+ghost use Rattle.pan_driver.specs.Bounded.{IsBoundOf};
 ghost use Rattle.pan_driver.specs.InTime.{IsInTime, IsShort};
 ghost use Rattle.pan_driver.specs.Errors.{Unbuilt};
 ghost use Rattle.pan_driver.specs.declared.error.BuildError.{BuildError as IsBuildError};
@@ -30,13 +31,14 @@ fn stages_of(alloc: Global, checked: Checked) -> Result<Stages, NoMemory>
 }
 
 /// The image of a checked program, with all stages. It does what the program does, in at most 1,024 steps for each unit of
-/// work and for the start, or runs out of a stack that is less than the active calls cost. It has no bound. `NoMemory` is
-/// the one error.
+/// work and for the start, or runs out of a stack that is less than the active calls cost, and less than its bound, which it has
+/// where the calls that main reaches have no cycle. `NoMemory` is the one error.
 pub fn build_checked(alloc: Global, checked: Checked) -> Result<Built, NoMemory>
     ensures chained { IfOk result (λ built. ChainedFrom checked built.stages built.image) }
     ensures faithful { IfOk result (λ built. Faithful checked built.image (parts built.stages)) }
     ensures in_time { IfOk result (λ built. IsInTime checked (parts built.stages)) }
     ensures code { IfOk result (λ built. IsShort checked (parts built.stages)) }
+    ensures bounded { IfOk result (λ built. IsBoundOf checked (parts built.stages) built.stages.bound) }
 {
     chained_is_faithful();
     let stages = stages_of(alloc, checked)?;
@@ -55,6 +57,7 @@ pub fn build(alloc: Global, source: &[u8]) -> Result<Built, BuildError>
     ensures faithful { IfOk result (λ built. Faithful built.stages.checked built.image (parts built.stages)) }
     ensures in_time { IfOk result (λ built. IsInTime built.stages.checked (parts built.stages)) }
     ensures code { IfOk result (λ built. IsShort built.stages.checked (parts built.stages)) }
+    ensures bounded { IfOk result (λ built. IsBoundOf built.stages.checked (parts built.stages) built.stages.bound) }
     ensures refused { IfErr result (λ e. (e ≡ BuildError.NoMemory) ⊎ Unbuilt source.now e) }
 
     // which answer comes

@@ -1,6 +1,7 @@
 //! What a build gives: the image, and each stage on the way to it.
 
 ghost use Rattle.std.specs.Prelude.{◌≡◌};
+ghost use Rattle.pan_driver.specs.Chained.{bytes_of, parts};
 
 use crep_lang::CrepProg;
 use lab_lang::LabProg;
@@ -9,6 +10,7 @@ use pan_base::{Blob, List};
 use pan_shapes::Checked;
 use reg_alloc::Colours;
 use riscv_isa::Code;
+use stack_bound::types::Bound;
 use stack_lang::StackProg;
 use word_lang::WordProg;
 
@@ -24,8 +26,22 @@ pub struct Stages {
     /// The words over homes.
     pub(crate) homes: WordProg,
     pub(crate) stack: StackProg,
+    /// What the program over frames takes of a stack.
+    pub(crate) bound: Bound,
     pub(crate) lab: LabProg,
     pub(crate) code: Code,
+}
+
+impl Stages {
+    /// The bytes of stack that suffice, where the calls have no cycle.
+    pub(crate) fn bytes(&self) -> Option<u64>
+        ensures { result ≡ bytes_of self.now.bound }
+    {
+        match &self.bound {
+            Bound::Bytes(bytes) => Some(*bytes),
+            Bound::Cycle(_) => None,
+        }
+    }
 }
 
 /// An image, and the stages that it was built in.
@@ -90,6 +106,22 @@ impl Built {
         ensures { result.now ≡ self.now.stages.stack }
     {
         &self.stages.stack
+    }
+
+    /// The bytes of stack that suffice for the image where the source makes no failing step, or a cycle of its calls, for
+    /// which there is no such number.
+    pub fn bound(&self) -> &Bound
+        ensures { result.now ≡ self.now.stages.bound }
+    {
+        &self.stages.bound
+    }
+
+    /// The bytes of stack that suffice for the image where the source makes no failing step; none where its calls have a
+    /// cycle.
+    pub fn bytes(&self) -> Option<u64>
+        ensures { result ≡ (parts self.now.stages).bound }
+    {
+        self.stages.bytes()
     }
 
     /// The program in lines.

@@ -9,6 +9,7 @@ ghost use Rattle.crep_lang.specs.Stage as crep_stages;
 ghost use Rattle.loop_lang.specs.Stage as loop_stages;
 ghost use Rattle.word_lang.specs.Homes.{AreOverHomes};
 ghost use Rattle.word_lang.specs.Stage as word_stages;
+ghost use Rattle.stack_bound.specs.Bounds.{IsAnswer};
 ghost use Rattle.stack_lang.specs.Stage as stack_stages;
 ghost use Rattle.lab_lang.specs.Layout.{IsLayout};
 ghost use Rattle.lab_lang.specs.Meaning.{behaviour};
@@ -31,6 +32,8 @@ use pan_base::{List, NoMemory};
 use pan_shapes::Checked;
 use reg_alloc::Colours;
 use riscv_isa::Code;
+use stack_bound::bound;
+use stack_bound::types::Bound;
 use stack_frames::frames;
 use stack_lang::StackProg;
 use std::alloc::Global;
@@ -56,6 +59,7 @@ pub(crate) struct Middle {
 #[derive(Drop)]
 pub(crate) struct Back {
     pub(crate) stack: StackProg,
+    pub(crate) bound: Bound,
     pub(crate) lab: LabProg,
     pub(crate) code: Code,
 }
@@ -101,14 +105,21 @@ fn middle_of(alloc: Global, words: &WordProg) -> Result<Middle, NoMemory>
 fn back_of(alloc: Global, homes: &WordProg) -> Result<Back, NoMemory>
     requires { AreOverHomes homes.now.program }
     ensures stack { IfOk result (λ back. KeepsOverStack (word_stages.stage homes.now.program) (stack_stages.stage back.stack.program)) }
+    ensures bound { IfOk result (λ back. IsAnswer back.stack.program back.bound) }
     ensures lab { IfOk result (λ back. (layout : List (ℕ × ℕ)) → IsLayout 0 back.lab.lines layout → KeepsInSteps (stack_stages.stage back.stack.program) (lab_stages.stage back.lab.program back.lab.lines layout)) }
     ensures fuel { IfOk result (λ back. (layout : List (ℕ × ℕ)) → IsLayout 0 back.lab.lines layout → RunsOnFuel back.stack.program (behaviour back.lab.program back.lab.lines layout)) }
     ensures code { IfOk result (λ back. IsLinked back.lab.program back.lab.lines back.code.layout back.code.bytes) }
 {
     let stack = frames(alloc, homes)?;
+    let bound = bound(alloc, &stack)?;
     let lab = flatten_code(alloc, &stack)?;
     let code = link(alloc, &lab)?;
-    Ok(Back { stack, lab, code })
+    Ok(Back {
+        stack,
+        bound,
+        lab,
+        code,
+    })
 }
 
 /// From operations to code. `NoMemory` is the one error.
@@ -142,6 +153,7 @@ impl Lowered {
             colours: self.rear.middle.colours,
             homes: self.rear.middle.homes,
             stack: self.rear.back.stack,
+            bound: self.rear.back.bound,
             lab: self.rear.back.lab,
             code: self.rear.back.code,
         }

@@ -25,12 +25,12 @@ fn names_of(alloc: Global, checked: &Checked) -> Result<Names, NoMemory>
     Ok(Names { list })
 }
 
-/// The image of the linked code, with the program's foreign names and no bound. `NoMemory` is the one error.
+/// The image of the linked code, with the program's foreign names and its bound. `NoMemory` is the one error.
 pub(crate) fn image_of(alloc: Global, stages: &Stages) -> Result<Blob, NoMemory>
     requires { AreChained stages.now }
     ensures { IfOk result (λ image. ImageOf image (parts stages.now)) }
 {
     let names = names_of(alloc, &stages.checked)?;
-    let image = write_image(alloc, &stages.code, &names, None)?;
+    let image = write_image(alloc, &stages.code, &names, stages.bytes())?;
     Ok(image)
 }

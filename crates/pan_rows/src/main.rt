@@ -14,13 +14,14 @@ use std::io::{self, Write};
 use std::process::ExitCode;
 
 /// The files of rows.
-const FILES: [&str; 6] = [
+const FILES: [&str; 7] = [
     "worked.txt",
     "outside.txt",
     "refused.txt",
     "scripts.txt",
     "images.txt",
     "code.txt",
+    "examples.txt",
 ];
 
 /// Adds what comes of the rows, up to the first line that is none of a row, if there is one.

@@ -2,6 +2,7 @@ pub mod Masked
 pub mod Machine
 pub mod Homes
 pub mod Words
+pub mod Zeros
 pub mod Rows
 pub mod Moves
 pub mod Operations

@@ -1,6 +1,6 @@
 -- Rows of code that end normally: what they take and what they leave.
 use Rattle.std.proofs.Common.{◌≡◌, ℕ, zero, suc, ◌+◌, ◌*◌, ◌/◌, ◌%◌, ◌^◌, ◌<◌, ◌≤◌, List, [], ◌∷◌, ◌++◌, map, length, Some, Bool, true, false, refl, sym, ap, ◌∙◌, subst, arith}
-use Rattle.std.specs.Prelude.{nat_eq, nat_lt, if◌then◌else◌}
+use Rattle.std.specs.Prelude.{nat_eq, nat_lt, not, ◌&&◌, if◌then◌else◌}
 use Rattle.std.proofs.lemmas.Bool.Decides.{nat_tests}
 use Rattle.pan_base.specs.Results.{plus, upper, low_half}
 use Rattle.pan_base.specs.Words.{IsWord}
@@ -19,9 +19,10 @@ use Rattle.stack_lang.specs.Meaning.{World, Does, Callee, ran, run_layer, run}
 use Rattle.stack_lang.specs.declared.syntax.Stmt.{Stmt, Stmt-F, roll-Stmt, map-Stmt, fold-Stmt, fold-roll-Stmt}
 use Rattle.stack_lang.specs.declared.syntax.Stmt.TheVariants as stack
 use Rattle.stack_lang.specs.declared.syntax.Stmt.TheOpen as open_stack
-use Rattle.stack_frames.specs.Constants.{low, high, with_low, constant_in, constant}
+use Rattle.stack_frames.specs.Constants.{low, high, with_low, zeros, odd, is_upper, shifted, shifted_by, constant_in, constant}
 use Rattle.stack_frames.proofs.Masked.{IsUsable, reg_written, reg_twice}
 use Rattle.stack_frames.proofs.Words.{magnitude, high_is_word, high_and_low, high_smaller, half_near, upper_and_low, upper_alone, high_alone, low_alone}
+use Rattle.stack_frames.proofs.Zeros.{shifted_word, shifted_smaller, high_back, and_twelve, upper_twelve}
 use Rattle.riscv_isa.proofs.Registers.{zero_is}
 
 module _ (size d : ℕ) (callee : Callee) where
@@ -152,6 +153,48 @@ module _ (size d : ℕ) (callee : Callee) where
     smaller (suc (suc zero)) m q l a b = omega (arith, a, b)
     smaller (suc (suc (suc k))) m q l a b = absurd (omega (arith, l))
 
+    -- shifted to the high bits' place, and with the low bits
+    shifted_sets : (limit k m n : ℕ) (code : List Instr) (v : Frame) → IsWord n → length (v.seen).registers ≡ 32 → m * 2 ^ k % 2 ^ 64 ≡ high n * 2 ^ 12 % 2 ^ 64 → Sets limit code r m v → Sets (limit + 2) (code ++ shifted k r n) r n v
+    shifted_sets limit k m n code v small count to inner = by_low (nat_eq (n % 4096) 0) refl
+      where
+        code_is : (xs : List Instr) → map stack.Plain (xs ++ instr.Sh Slli r r k ∷ instr.I Addi r r (low n) ∷ []) ≡ map stack.Plain (xs ++ instr.Sh Slli r r k ∷ []) ++ stack.Plain (instr.I Addi r r (low n)) ∷ []
+        code_is [] = refl
+        code_is (x ∷ xs) = ap (λ ss. stack.Plain x ∷ ss) (code_is xs)
+
+        high_there : Ran (limit + 1) (map stack.Plain (code ++ instr.Sh Slli r r k ∷ [])) v (λ v'. v' ≡ with_register v r (high n * 2 ^ 12 % 2 ^ 64))
+        high_there =
+            subst (λ ss. Ran (limit + 1) ss v (λ v'. v' ≡ with_register v r (high n * 2 ^ 12 % 2 ^ 64))) (sym (plain_append code (instr.Sh Slli r r k ∷ [])))
+            (then_one limit code (instr.Sh Slli r r k) m (high n * 2 ^ 12 % 2 ^ 64) v count inner (λ t e. ap (λ a. Runs (next (with_reg t r (a * 2 ^ k % 2 ^ 64)))) e ∙ ap (λ a. Runs (next (with_reg t r a))) to))
+
+        by_low : (b : Bool) → nat_eq (n % 4096) 0 ≡ b → Sets (limit + 2) (code ++ instr.Sh Slli r r k ∷ (if b then [] else instr.I Addi r r (low n) ∷ [])) r n v
+        by_low true e =
+            let none : n % 4096 ≡ 0 = grind (arith, nat_tests) in
+            ran_within (limit + 1) (limit + 2) _ v (λ v'. v' ≡ with_register v r (high n * 2 ^ 12 % 2 ^ 64)) (λ v'. v' ≡ with_register v r n) (omega arith) (λ v' e. e ∙ ap (λ m. with_register v r m) (high_alone n small none)) high_there
+        by_low false e =
+            ran_within (limit + 1 + 1) (limit + 2) _ v (λ v'. v' ≡ with_register v r (plus (high n * 2 ^ 12 % 2 ^ 64) (low n))) (λ v'. v' ≡ with_register v r n) (omega arith) (λ v' e. e ∙ ap (λ m. with_register v r m) (high_and_low n small))
+            (subst (λ ss. Ran (limit + 1 + 1) ss v (λ v'. v' ≡ with_register v r (plus (high n * 2 ^ 12 % 2 ^ 64) (low n)))) (sym (code_is code))
+            (added (limit + 1) (code ++ instr.Sh Slli r r k ∷ []) (high n * 2 ^ 12 % 2 ^ 64) (low n) v count high_there))
+
+    -- LUI alone, shifted
+    upper_sets : (n : ℕ) (v : Frame) → IsWord n → length (v.seen).registers ≡ 32 → is_upper (odd n) ≡ true → Sets 3 (instr.U Lui r (odd n % 2 ^ 20) ∷ shifted (zeros n) r n) r n v
+    upper_sets n v small count is =
+        let m = odd n % 2 ^ 20 in
+        let word : IsWord (high n) = high_is_word n small in
+        shifted_sets 1 (zeros n) (upper m) n (instr.U Lui r m ∷ []) v small count
+        (upper_twelve (odd n) (zeros n) (high n) (shifted_word (high n) (zeros n) word) (fits (nat_lt ((odd n + 2 ^ 19) % 2 ^ 64) (2 ^ 20)) refl (second (not (nat_eq (high (odd n)) 0)) (nat_lt ((odd n + 2 ^ 19) % 2 ^ 64) (2 ^ 20)) is)) (high_back n word))
+        (ran_one 1 1 (stack.Plain (instr.U Lui r m)) v (with_register v r (upper m)) (λ v'. v' ≡ with_register v r (upper m)) (omega arith) (plain_writes (instr.U Lui r m) r (upper m) v refl) refl)
+      where
+        second : (a b : Bool) → (a && b) ≡ true → b ≡ true
+        second true b e = e
+        second false true e = refl
+        second false false e = e
+
+        fits : (b : Bool) → nat_lt ((odd n + 2 ^ 19) % 2 ^ 64) (2 ^ 20) ≡ b → b ≡ true → (odd n + 2 ^ 19) % 2 ^ 64 < 2 ^ 20
+        fits b e is = grind (arith, nat_tests)
+
+    below : (a b c : ℕ) → a ≤ b → b < c → a < c
+    below a b c l m = omega (arith, l, m)
+
     pub constant_sets : (k n : ℕ) (v : Frame) → k ≤ 3 → IsWord n → magnitude n < bound k → length (v.seen).registers ≡ 32 → Sets (2 + 2 * k) (constant_in k r n) r n v
     constant_sets zero n v l small m count = choose_zero (nat_eq (high n) 0) (nat_lt ((n + 2 ^ 31) % 2 ^ 64) (2 ^ 32)) refl refl
       where
@@ -164,36 +207,26 @@ module _ (size d : ℕ) (callee : Callee) where
         choose_zero false true e f = upper_first n v small count fits
         choose_zero false false e f = absurd (let h = fits in grind (arith, nat_tests))
     constant_sets (suc k) n v l small m count =
-        by (constant_sets k (high n) v (omega (arith, l)) (high_is_word n small) (smaller k (magnitude n) (magnitude (high n)) (omega (arith, l)) m (high_smaller n small)) count)
+        by
+        (constant_sets k (odd n) v (omega (arith, l)) (shifted_word (high n) (zeros n) word)
+        (below (magnitude (odd n)) (magnitude (high n)) (bound k) (shifted_smaller (high n) (zeros n) word) (smaller k (magnitude n) (magnitude (high n)) (omega (arith, l)) m (high_smaller n small))) count)
         (nat_eq (high n) 0) (nat_lt ((n + 2 ^ 31) % 2 ^ 64) (2 ^ 32)) refl refl
       where
-        shifted : Sets (2 + 2 * k) (constant_in k r (high n)) r (high n) v → Ran (2 + 2 * k + 1) (map stack.Plain (constant_in k r (high n)) ++ stack.Plain (instr.Sh Slli r r 12) ∷ []) v (λ v'. v' ≡ with_register v r (high n * 2 ^ 12 % 2 ^ 64))
-        shifted inner = then_one (2 + 2 * k) (constant_in k r (high n)) (instr.Sh Slli r r 12) (high n) (high n * 2 ^ 12 % 2 ^ 64) v count inner (λ t e. ap (λ a. Runs (next (with_reg t r (a * 2 ^ 12 % 2 ^ 64)))) e)
+        word : IsWord (high n)
+        word = high_is_word n small
 
-        long : Sets (2 + 2 * k) (constant_in k r (high n)) r (high n) v → Sets (2 + 2 * suc k) (constant_in k r (high n) ++ instr.Sh Slli r r 12 ∷ with_low Addi r n) r n v
-        long inner = by_low (nat_eq (n % 4096) 0) refl
-          where
-            code_is : (xs : List Instr) → map stack.Plain (xs ++ instr.Sh Slli r r 12 ∷ instr.I Addi r r (low n) ∷ []) ≡ map stack.Plain (xs ++ instr.Sh Slli r r 12 ∷ []) ++ stack.Plain (instr.I Addi r r (low n)) ∷ []
-            code_is [] = refl
-            code_is (x ∷ xs) = ap (λ ss. stack.Plain x ∷ ss) (code_is xs)
+        long : Sets (2 + 2 * k) (constant_in k r (odd n)) r (odd n) v → (b : Bool) → is_upper (odd n) ≡ b
+            → Sets (2 + 2 * suc k) (if b then instr.U Lui r (odd n % 2 ^ 20) ∷ shifted (zeros n) r n else constant_in k r (odd n) ++ shifted (12 + zeros n) r n) r n v
+        long inner true e = ran_within 3 (2 + 2 * suc k) _ v _ _ (omega arith) (λ v' p. p) (upper_sets n v small count e)
+        long inner false e =
+            ran_within (2 + 2 * k + 2) (2 + 2 * suc k) _ v _ _ (omega arith) (λ v' p. p)
+            (shifted_sets (2 + 2 * k) (12 + zeros n) (odd n) n (constant_in k r (odd n)) v small count (and_twelve (odd n) (zeros n) (high n) (high_back n word)) inner)
 
-            high_there : Ran (2 + 2 * k + 1) (map stack.Plain (constant_in k r (high n) ++ instr.Sh Slli r r 12 ∷ [])) v (λ v'. v' ≡ with_register v r (high n * 2 ^ 12 % 2 ^ 64))
-            high_there = subst (λ ss. Ran (2 + 2 * k + 1) ss v (λ v'. v' ≡ with_register v r (high n * 2 ^ 12 % 2 ^ 64))) (sym (plain_append (constant_in k r (high n)) (instr.Sh Slli r r 12 ∷ []))) (shifted inner)
-
-            by_low : (b : Bool) → nat_eq (n % 4096) 0 ≡ b → Sets (2 + 2 * suc k) (constant_in k r (high n) ++ instr.Sh Slli r r 12 ∷ (if b then [] else instr.I Addi r r (low n) ∷ [])) r n v
-            by_low true e =
-                let none : n % 4096 ≡ 0 = grind (arith, nat_tests) in
-                ran_within (2 + 2 * k + 1) (2 + 2 * suc k) _ v (λ v'. v' ≡ with_register v r (high n * 2 ^ 12 % 2 ^ 64)) (λ v'. v' ≡ with_register v r n) (omega arith) (λ v' e. e ∙ ap (λ m. with_register v r m) (high_alone n small none)) high_there
-            by_low false e =
-                ran_within (2 + 2 * k + 1 + 1) (2 + 2 * suc k) _ v (λ v'. v' ≡ with_register v r (plus (high n * 2 ^ 12 % 2 ^ 64) (low n))) (λ v'. v' ≡ with_register v r n) (omega arith) (λ v' e. e ∙ ap (λ m. with_register v r m) (high_and_low n small))
-                (subst (λ ss. Ran (2 + 2 * k + 1 + 1) ss v (λ v'. v' ≡ with_register v r (plus (high n * 2 ^ 12 % 2 ^ 64) (low n)))) (sym (code_is (constant_in k r (high n))))
-                (added (2 + 2 * k + 1) (constant_in k r (high n) ++ instr.Sh Slli r r 12 ∷ []) (high n * 2 ^ 12 % 2 ^ 64) (low n) v count high_there))
-
-        by : Sets (2 + 2 * k) (constant_in k r (high n)) r (high n) v → (a b : Bool) → nat_eq (high n) 0 ≡ a → nat_lt ((n + 2 ^ 31) % 2 ^ 64) (2 ^ 32) ≡ b
-            → Sets (2 + 2 * suc k) (if a then instr.I Addi r 0 (low n) ∷ [] else (if b then instr.U Lui r (high n % 2 ^ 20) ∷ with_low Addiw r n else constant_in k r (high n) ++ instr.Sh Slli r r 12 ∷ with_low Addi r n)) r n v
+        by : Sets (2 + 2 * k) (constant_in k r (odd n)) r (odd n) v → (a b : Bool) → nat_eq (high n) 0 ≡ a → nat_lt ((n + 2 ^ 31) % 2 ^ 64) (2 ^ 32) ≡ b
+            → Sets (2 + 2 * suc k) (if a then instr.I Addi r 0 (low n) ∷ [] else (if b then instr.U Lui r (high n % 2 ^ 20) ∷ with_low Addiw r n else shifted_by (constant_in k r (odd n)) r n)) r n v
         by inner true b e f = ran_within 2 (2 + 2 * suc k) _ v _ _ (omega arith) (λ v' p. p) (short n v small (grind (arith, nat_tests)))
         by inner false true e f = ran_within 2 (2 + 2 * suc k) _ v _ _ (omega arith) (λ v' p. p) (upper_first n v small count (grind (arith, nat_tests)))
-        by inner false false e f = long inner
+        by inner false false e f = long inner (is_upper (odd n)) refl
 
     pub constant_ran : (n : ℕ) (v : Frame) → IsWord n → length (v.seen).registers ≡ 32 → Ran 8 (map stack.Plain (constant r n)) v (λ v'. v' ≡ with_register v r n)
     constant_ran n v small count = constant_sets 3 n v (omega arith) small (near n small) count

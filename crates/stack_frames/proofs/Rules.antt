@@ -1,5 +1,5 @@
 -- The equations of the pass at each variant, as its code meets them.
-use Rattle.std.proofs.Common.{◌≡◌, ◌≢◌, ℕ, zero, suc, ◌+◌, ◌-◌, List, [], ◌∷◌, ◌++◌, map, length, Option, Some, None, append_assoc, refl, sym, ap, ◌∙◌, arith}
+use Rattle.std.proofs.Common.{◌≡◌, ◌≢◌, ℕ, zero, suc, ◌+◌, ◌-◌, ◌^◌, ◌<◌, List, [], ◌∷◌, ◌++◌, map, length, Option, Some, None, append_assoc, refl, sym, ap, ◌∙◌, arith}
 use Rattle.std.proofs.lemmas.Bool.Decides.{nat_tests}
 use Rattle.pan_base.specs.declared.operators.IOp.TheVariants.{Addi}
 use Rattle.pan_base.specs.declared.operators.ShiftOp.TheVariants.{Slli}
@@ -8,6 +8,8 @@ use Rattle.riscv_isa.specs.declared.instr.Instr.TheVariants as instr
 use Rattle.stack_lang.specs.declared.syntax.Stmt.{Stmt}
 use Rattle.stack_lang.specs.declared.syntax.Stmt.TheVariants as s
 use Rattle.std.specs.Prelude.{ℤ}
+use Rattle.std.specs.Int.{trailing_zeros, w64}
+use Rattle.std.proofs.lemmas.Nat.Bits.{bit_at-trailing_zeros}
 use Rattle.std.proofs.lemmas.List.{append-nil}
 use Rattle.pan_base.specs.declared.events.Size.{Size}
 use Rattle.pan_base.specs.declared.operators.ROp.{ROp}
@@ -26,7 +28,7 @@ use Rattle.word_lang.specs.declared.syntax.Stmt.TheOpen as tree
 use Rattle.word_lang.proofs.Equations.{handler_as}
 use Rattle.stack_frames.specs.Frames.{handler_variables, passes, fetches, framed_handler, framed_layer, framed}
 use Rattle.stack_frames.proofs.Statements.{flow_roll, framed_roll}
-use Rattle.stack_frames.specs.Constants.{high, with_low, constant_by, constant_in}
+use Rattle.stack_frames.specs.Constants.{high, odd, shifted_by, constant_by, constant_in}
 
 -- ---- constants
 
@@ -34,11 +36,15 @@ pub plain_append : (xs ys : List Instr) → map s.Plain (xs ++ ys) ≡ map s.Pla
 plain_append [] ys = refl
 plain_append (x ∷ xs) ys = ap (λ zs. s.Plain x ∷ zs) (plain_append xs ys)
 
-pub constant_next : (k r n : ℕ) → k ≢ 0 → constant_in k r n ≡ constant_by (constant_in (k - 1) r (high n) ++ instr.Sh Slli r r 12 ∷ with_low Addi r n) r n
+pub constant_next : (k r n : ℕ) → k ≢ 0 → constant_in k r n ≡ constant_by (shifted_by (constant_in (k - 1) r (odd n)) r n) r n
 constant_next zero r n ne = absurd (ne refl)
-constant_next (suc k) r n ne = ap (λ k. constant_by (constant_in k r (high n) ++ instr.Sh Slli r r 12 ∷ with_low Addi r n) r n) (let e : k ≡ suc k - 1 = omega arith in e)
+constant_next (suc k) r n ne = ap (λ k. constant_by (shifted_by (constant_in k r (odd n)) r n) r n) (let e : k ≡ suc k - 1 = omega arith in e)
 
-pub ruleset constant_rules = (append_assoc, nat_tests, plain_append, constant_next)
+-- fewer than 64 zeros stand below a bit that is set
+pub zeros_below : (n : ℕ) → 0 < n → n < 2 ^ 64 → trailing_zeros w64 n < 64
+zeros_below n some small = (bit_at-trailing_zeros w64 n some small).0
+
+pub ruleset constant_rules = (append_assoc, nat_tests, plain_append, constant_next, zeros_below)
 
 -- ---- rows
 

@@ -1,5 +1,5 @@
 -- What stands in the code of a frame: the sites of the statements over homes, few enough instructions, and right mentions.
-use Rattle.std.proofs.Common.{◌≡◌, ◌⊎◌, inl, inr, ℕ, zero, suc, pos, negsuc, ◌+◌, ◌-◌, ◌*◌, ◌%◌, ◌^◌, ◌<◌, ◌≤◌, List, [], ◌∷◌, ◌++◌, map, length, Bool, true, false, refl, sym, ap, ◌∙◌, subst, arith, append_assoc}
+use Rattle.std.proofs.Common.{◌≡◌, ◌⊎◌, inl, inr, ℕ, zero, suc, pos, negsuc, ◌+◌, ◌-◌, ◌*◌, ◌%◌, ◌^◌, ◌<◌, ◌≤◌, List, [], ◌∷◌, ◌++◌, map, length, ◌≢◌, Bool, true, false, refl, sym, ap, ◌∙◌, subst, arith, append_assoc}
 use Rattle.std.specs.Prelude.{◌≤ℤ◌, nat_lt, nat_eq, flat_map, if◌then◌else◌}
 use Rattle.std.specs.List.{All}
 use Rattle.std.proofs.lemmas.Bool.Decides.{nat_tests}
@@ -23,9 +23,10 @@ use Rattle.stack_lang.specs.WellFormed.{Scope, IsRight}
 use Rattle.stack_lang.specs.declared.syntax.Stmt.{Stmt, Stmt-F, roll-Stmt, map-Stmt, fold-Stmt, fold-roll-Stmt}
 use Rattle.stack_lang.specs.declared.syntax.Stmt.TheVariants as s
 use Rattle.stack_lang.specs.declared.syntax.Stmt.TheOpen as o_s
-use Rattle.stack_frames.specs.Constants.{low, high, with_low, constant_by, constant_in, constant}
+use Rattle.stack_frames.specs.Constants.{low, high, with_low, zeros, odd, is_upper, shifted, shifted_by, constant_by, constant_in, constant}
 use Rattle.stack_frames.specs.Frames.{register_of, gets, puts, load, save, distance, pass, fetch, passes, fetches}
 use Rattle.stack_frames.proofs.Masked.{IsUsable, seen}
+use Rattle.stack_frames.proofs.Zeros.{few_zeros}
 use Rattle.stack_frames.proofs.Flows.{has_first, has_rest}
 use Rattle.stack_frames.proofs.Homes.{IsNumbered, home_usable, spare_low, spare_5, IsSpare}
 
@@ -165,27 +166,36 @@ module _ (scope : Scope) where
         by true = row_within [] 0 1 [] (omega arith) row_none
         by false = low_row op r n (inr refl)
 
-    high_small : (n : ℕ) → high n % 2 ^ 20 < 2 ^ 20
-    high_small n = omega arith
+    upper_row : (n : ℕ) → Row scope [] 1 (s.Plain (instr.U Lui r (n % 2 ^ 20)) ∷ [])
+    upper_row n = row_plain (instr.U Lui r (n % 2 ^ 20)) ((u.below, omega arith), (refl, writable r u))
 
-    constant_row_by : (k : ℕ) (long : List Instr) (n : ℕ) → 2 ≤ k → Row scope [] k (map s.Plain long) → Row scope [] k (map s.Plain (constant_by long r n))
-    constant_row_by k long n l p = by (nat_eq (high n) 0) (nat_lt ((n + 2 ^ 31) % 2 ^ 64) (2 ^ 32))
+    shifted_row : (k n : ℕ) → k < 64 → Row scope [] 2 (map s.Plain (shifted k r n))
+    shifted_row k n l = row_append [] [] 1 1 (s.Plain (instr.Sh Slli r r k) ∷ []) (map s.Plain (with_low Addi r n)) (row_plain (instr.Sh Slli r r k) ((u.below, u.below, l), (writable r u, visible r u))) (with_low_row Addi n)
+
+    constant_row_by : (k : ℕ) (long : List Instr) (n : ℕ) → 2 ≤ k → (high n ≢ 0 → Row scope [] k (map s.Plain long)) → Row scope [] k (map s.Plain (constant_by long r n))
+    constant_row_by k long n l p = by (nat_eq (high n) 0) (nat_lt ((n + 2 ^ 31) % 2 ^ 64) (2 ^ 32)) refl
       where
-        by : (a b : Bool) → Row scope [] k (map s.Plain (if a then instr.I Addi r 0 (low n) ∷ [] else (if b then instr.U Lui r (high n % 2 ^ 20) ∷ with_low Addiw r n else long)))
-        by true b = row_within [] 1 k _ (omega (arith, l)) (low_row Addi 0 n (inl refl))
-        by false true =
-            row_within [] 2 k _ (omega (arith, l))
-            (row_append [] [] 1 1 (s.Plain (instr.U Lui r (high n % 2 ^ 20)) ∷ []) (map s.Plain (with_low Addiw r n)) (row_plain (instr.U Lui r (high n % 2 ^ 20)) ((u.below, high_small n), (refl, writable r u))) (with_low_row Addiw n))
-        by false false = p
+        by : (a b : Bool) → nat_eq (high n) 0 ≡ a → Row scope [] k (map s.Plain (if a then instr.I Addi r 0 (low n) ∷ [] else (if b then instr.U Lui r (high n % 2 ^ 20) ∷ with_low Addiw r n else long)))
+        by true b e = row_within [] 1 k _ (omega (arith, l)) (low_row Addi 0 n (inl refl))
+        by false true e =
+            row_within [] 2 k _ (omega (arith, l)) (row_append [] [] 1 1 (s.Plain (instr.U Lui r (high n % 2 ^ 20)) ∷ []) (map s.Plain (with_low Addiw r n)) (upper_row (high n)) (with_low_row Addiw n))
+        by false false e = p (grind (arith, nat_tests))
+
+    shifted_row_by : (k : ℕ) (long : List Instr) (n : ℕ) → 1 ≤ k → high n ≢ 0 → Row scope [] k (map s.Plain long) → Row scope [] (k + 2) (map s.Plain (shifted_by long r n))
+    shifted_row_by k long n l some p = by (is_upper (odd n)) (few_zeros n some)
+      where
+        by : (b : Bool) → zeros n ≤ 51 → Row scope [] (k + 2) (map s.Plain (if b then instr.U Lui r (odd n % 2 ^ 20) ∷ shifted (zeros n) r n else long ++ shifted (12 + zeros n) r n))
+        by true few =
+            row_within [] 3 (k + 2) _ (omega (arith, l)) (row_append [] [] 1 2 (s.Plain (instr.U Lui r (odd n % 2 ^ 20)) ∷ []) (map s.Plain (shifted (zeros n) r n)) (upper_row (odd n)) (shifted_row (zeros n) n (omega (arith, few))))
+        by false few =
+            subst (Row scope [] (k + 2)) (sym (plain_append long (shifted (12 + zeros n) r n)))
+            (row_append [] [] k 2 (map s.Plain long) (map s.Plain (shifted (12 + zeros n) r n)) p (shifted_row (12 + zeros n) n (omega (arith, few))))
 
     constant_row_in : (k n : ℕ) → Row scope [] (2 + 2 * k) (map s.Plain (constant_in k r n))
-    constant_row_in zero n = constant_row_by 2 [] n (omega arith) (row_within [] 0 2 [] (omega arith) row_none)
+    constant_row_in zero n = constant_row_by 2 [] n (omega arith) (λ some. row_within [] 0 2 [] (omega arith) row_none)
     constant_row_in (suc k) n =
-        constant_row_by (2 + 2 * suc k) (constant_in k r (high n) ++ instr.Sh Slli r r 12 ∷ with_low Addi r n) n (omega arith)
-        (subst (Row scope [] (2 + 2 * suc k)) (sym (plain_append (constant_in k r (high n)) (instr.Sh Slli r r 12 ∷ with_low Addi r n)))
-        (row_within [] (2 + 2 * k + 2) (2 + 2 * suc k) _ (omega arith)
-        (row_append [] [] (2 + 2 * k) 2 (map s.Plain (constant_in k r (high n))) (s.Plain (instr.Sh Slli r r 12) ∷ map s.Plain (with_low Addi r n)) (constant_row_in k (high n))
-        (row_append [] [] 1 1 (s.Plain (instr.Sh Slli r r 12) ∷ []) (map s.Plain (with_low Addi r n)) (row_plain (instr.Sh Slli r r 12) ((u.below, u.below, omega arith), (writable r u, visible r u))) (with_low_row Addi n)))))
+        constant_row_by (2 + 2 * suc k) (shifted_by (constant_in k r (odd n)) r n) n (omega arith)
+        (λ some. row_within [] (2 + 2 * k + 2) (2 + 2 * suc k) _ (omega arith) (shifted_row_by (2 + 2 * k) (constant_in k r (odd n)) n (omega arith) some (constant_row_in k (odd n))))
 
     pub constant_row : (n : ℕ) → Row scope [] 8 (map s.Plain (constant r n))
     constant_row n = constant_row_in 3 n

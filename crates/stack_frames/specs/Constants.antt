@@ -1,5 +1,6 @@
 -- Instructions that give a register a word.
-use Rattle.std.specs.Prelude.{ℕ, Bool, zero, suc, ℤ, pos, negsuc, ◌+◌, ◌-◌, ◌%◌, ◌^◌, nat_eq, nat_lt, if◌then◌else◌, List, [], ◌∷◌, ◌++◌}
+use Rattle.std.specs.Prelude.{ℕ, Bool, zero, suc, ℤ, pos, negsuc, ◌+◌, ◌-◌, ◌%◌, ◌^◌, nat_eq, nat_lt, not, ◌&&◌, if◌then◌else◌, List, [], ◌∷◌, ◌++◌}
+use Rattle.std.specs.Int.{trailing_zeros, w64}
 use Rattle.pan_base.specs.Words.{shift}
 use Rattle.pan_base.specs.declared.operators.ShOp.TheVariants.{Sar}
 use Rattle.pan_base.specs.declared.operators.IOp.{IOp}
@@ -32,10 +33,29 @@ constant_by long r n =
     else (if is_half n then instr.U Lui r (high n % 2 ^ 20) ∷ with_low Addiw r n
     else long)
 
+-- the zeros below the lowest bit of the high bits that is set, and the high bits without them
+abbrev pub zeros : ℕ → ℕ
+zeros n = trailing_zeros w64 (high n)
+
+abbrev pub odd : ℕ → ℕ
+odd n = shift Sar (high n) (zeros n)
+
+-- whether LUI alone gives 2 ^ 12 times the word, and ADDI alone doesn't give the word
+abbrev pub is_upper : ℕ → Bool
+is_upper n = not (nat_eq (high n) 0) && nat_lt ((n + 2 ^ 19) % 2 ^ 64) (2 ^ 20)
+
+-- what shifts the register to the left by s, and adds the word's low bits
+abbrev pub shifted : (s r n : ℕ) → List Instr
+shifted s r n = instr.Sh Slli r r s ∷ with_low Addi r n
+
+-- the word's high bits without their zeros, by LUI or by these instructions, shifted to their place
+abbrev pub shifted_by : List Instr → (r n : ℕ) → List Instr
+shifted_by long r n = if is_upper (odd n) then instr.U Lui r (odd n % 2 ^ 20) ∷ shifted (zeros n) r n else long ++ shifted (12 + zeros n) r n
+
 -- the same, where high bits that are too many for LUI come by a constant of their own, so many times
 abbrev pub constant_in : ℕ → (r n : ℕ) → List Instr
 constant_in zero r n = constant_by [] r n
-constant_in (suc k) r n = constant_by (constant_in k r (high n) ++ instr.Sh Slli r r 12 ∷ with_low Addi r n) r n
+constant_in (suc k) r n = constant_by (shifted_by (constant_in k r (odd n)) r n) r n
 
 -- at most eight instructions, which give the register the word
 abbrev pub constant : (r n : ℕ) → List Instr

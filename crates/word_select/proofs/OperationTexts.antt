@@ -270,8 +270,18 @@ pub shift_are : (o : ShOp) (t x a n : ℕ) → AreOperations (nat_lt n 64 ≡ tr
 shift_are sh_op.Shl t x a n = let Q = nat_lt n 64 ≡ true in let P = Among (a ∷ []) in fewer Q x t P 1 _ (one_are Q x t P _ (sh_is shift_op.Slli x a n Q P (λ q. q) (λ z h. h))) (omega arith)
 shift_are sh_op.Shr t x a n = let Q = nat_lt n 64 ≡ true in let P = Among (a ∷ []) in fewer Q x t P 1 _ (one_are Q x t P _ (sh_is shift_op.Srli x a n Q P (λ q. q) (λ z h. h))) (omega arith)
 shift_are sh_op.Sar t x a n = let Q = nat_lt n 64 ≡ true in let P = Among (a ∷ []) in fewer Q x t P 1 _ (one_are Q x t P _ (sh_is shift_op.Srai x a n Q P (λ q. q) (λ z h. h))) (omega arith)
-shift_are sh_op.Ror t x a n =
-    let Q = nat_lt n 64 ≡ true in let P = Among (a ∷ []) in
-    more_are Q x t t P 2 _ _ (inr refl) (sh_is shift_op.Srli t a n Q P (λ q. q) (λ z h. h))
-    (more_are Q x t x _ 1 _ _ (inl refl) (sh_is shift_op.Slli x a ((64 - n) % 64) Q (λ z. P z ⊎ (z ≡ t)) (λ q. amount_right 64 ((64 - n) % 64) (omega arith)) (λ z h. inl h))
-    (one_are Q x t _ _ (reg_is rop.Or x t x Q (λ z. (P z ⊎ (z ≡ t)) ⊎ (z ≡ x)) (λ z h. elim (has_cases t (x ∷ []) z h) [ inl e ↦ inl (inr e) | inr m ↦ inr (has_one x z m) ]))))
+shift_are sh_op.Ror t x a n = by (nat_eq n 0) refl
+  where
+    Q : Type 0
+    Q = nat_lt n 64 ≡ true
+
+    P : ℕ → Type 0
+    P = Among (a ∷ [])
+
+    by : (b : Bool) → nat_eq n 0 ≡ b → AreOperations Q x t P 3 (if b then s.Imm iop.Ori x a (pos 0) ∷ [] else s.Sh shift_op.Srli t a n ∷ s.Sh shift_op.Slli x a (64 - n) ∷ s.Reg rop.Or x t x ∷ [])
+    by true e = fewer Q x t P 1 _ (one_are Q x t P _ (imm_is iop.Ori x a (pos 0) Q P refl (λ z h. h))) (omega arith)
+    by false e =
+        let some : 1 ≤ n = grind (arith, nat_tests) in
+        more_are Q x t t P 2 _ _ (inr refl) (sh_is shift_op.Srli t a n Q P (λ q. q) (λ z h. h))
+        (more_are Q x t x _ 1 _ _ (inl refl) (sh_is shift_op.Slli x a (64 - n) Q (λ z. P z ⊎ (z ≡ t)) (λ q. amount_right 64 (64 - n) (omega (arith, some))) (λ z h. inl h))
+        (one_are Q x t _ _ (reg_is rop.Or x t x Q (λ z. (P z ⊎ (z ≡ t)) ⊎ (z ≡ x)) (λ z h. elim (has_cases t (x ∷ []) z h) [ inl e ↦ inl (inr e) | inr m ↦ inr (has_one x z m) ]))))

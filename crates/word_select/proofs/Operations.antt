@@ -1,9 +1,9 @@
 -- The operations of a step compute its word.
-use Rattle.std.proofs.Common.{◌≡◌, ◌≢◌, ℕ, zero, suc, ◌+◌, ◌-◌, ◌*◌, ◌%◌, ◌^◌, ◌≤◌, Bool, true, false, List, [], ◌∷◌, map, Option, Some, None, arith, refl, sym, ap, subst, ◌∙◌}
+use Rattle.std.proofs.Common.{◌≡◌, ◌≢◌, ℕ, zero, suc, ◌+◌, ◌-◌, ◌*◌, ◌/◌, ◌%◌, ◌^◌, ◌≤◌, Bool, true, false, List, [], ◌∷◌, map, Option, Some, None, arith, refl, sym, ap, subst, ◌∙◌}
 use Rattle.std.specs.Prelude.{ℤ, pos, nat_eq, nat_lt, not, bit_and, bit_or, bit_xor, if◌then◌else◌}
-use Rattle.std.specs.Int.Bits.{xor_self, xor_assoc, xor_zero_l, xor_zero_r}
+use Rattle.std.specs.Int.Bits.{or_zero_r, or_add_and, and_self, xor_self, xor_assoc, xor_zero_l, xor_zero_r}
 use Rattle.std.proofs.lemmas.Bool.Decides.{nat_tests}
-use Rattle.std.proofs.lemmas.Nat.{and_comm, or_comm, xor_comm}
+use Rattle.std.proofs.lemmas.Nat.{and_comm, and_assoc, and_mask, or_comm, xor_comm}
 use Rattle.std.proofs.Math.Nat.{mul_comm, add_comm}
 use Rattle.pan_base.specs.Words.{operate, shift, truth, compare}
 use Rattle.pan_base.specs.declared.operators.BinOp.{BinOp}
@@ -32,6 +32,21 @@ use Rattle.word_lang.proofs.Equations.{run_reg, run_imm, run_sh}
 use Rattle.word_select.specs.Facts.{Facts, Holds, number_at, immediate_at, negated_at, exponent_at}
 use Rattle.word_select.specs.Selected.{either_side, right_side, right_product, operation, is_zero, turned, equal_by, comparison, shift_steps}
 use Rattle.word_select.proofs.FactLaws.{when_case, number_holds, IsImmediate, immediate_holds, negated_holds, exponent_holds}
+
+-- ---- rotations by 0
+
+or_low : (a : ℕ) → bit_or a (a % 2 ^ 64) ≡ a
+or_low a =
+    let both : bit_and a (a % 2 ^ 64) ≡ a % 2 ^ 64 =
+    ap (bit_and a) (sym (and_mask a 64)) ∙ sym (and_assoc (2 ^ 64 - 1) a a) ∙ ap (λ n. bit_and n (2 ^ 64 - 1)) (and_self a) ∙ and_mask a 64 in
+    let all = or_add_and a (a % 2 ^ 64) in
+    omega (arith, both, all)
+
+rotated_by_none : (a : ℕ) → shift sh_op.Ror a 0 ≡ a
+rotated_by_none a =
+    let one : a / 2 ^ 0 ≡ a = omega arith in
+    let other : a * 2 ^ 0 % 2 ^ 64 ≡ a % 2 ^ 64 = omega arith in
+    ap (λ m. bit_or m (a * 2 ^ 0 % 2 ^ 64)) one ∙ ap (bit_or a) other ∙ or_low a
 
 -- ---- comparisons
 
@@ -204,13 +219,24 @@ module _ (names : List (List ℕ)) (d : ℕ) (callee : Callee (List ℕ) (List �
   shift_many sh_op.Shl t x a n u ne ne2 = many_one _ 3 x _ t u (omega arith) (one_sh shift_op.Slli x a n _ u refl)
   shift_many sh_op.Shr t x a n u ne ne2 = many_one _ 3 x _ t u (omega arith) (one_sh shift_op.Srli x a n _ u refl)
   shift_many sh_op.Sar t x a n u ne ne2 = many_one _ 3 x _ t u (omega arith) (one_sh shift_op.Srai x a n _ u refl)
-  shift_many sh_op.Ror t x a n u ne ne2 =
-      let low = shift sh_op.Shr (u a) n in
-      let high = shift sh_op.Shl (u a) ((64 - n) % 64) in
-      let u1 = write t low u in
-      let u2 = write x high u1 in
-      many_more _ _ 2 t low x (shift sh_op.Ror (u a) n) t u (one_sh shift_op.Srli t a n low u refl)
-      (many_more _ _ 1 x high x (shift sh_op.Ror (u a) n) t u1 (one_sh shift_op.Slli x a ((64 - n) % 64) high u1 (ap (λ m. shift sh_op.Shl m ((64 - n) % 64)) (write_other t low a u ne)))
-      (many_one _ 1 x _ t u2 (omega arith) (one_reg rop.Or x t x (shift sh_op.Ror (u a) n) u2
-      (ap (λ m. bit_or m (u2 x)) (write_other x high t u1 ne2 ∙ write_same t low u) ∙ ap (bit_or low) (write_same x high u1))))
-      (λ y ne ne2. ne)) (λ y ne ne2. ne2)
+  shift_many sh_op.Ror t x a n u ne ne2 = by (nat_eq n 0) refl
+    where
+      whole : n ≡ 0 → bit_or (u a) 0 ≡ shift sh_op.Ror (u a) n
+      whole none = or_zero_r (u a) ∙ sym (rotated_by_none (u a)) ∙ ap (shift sh_op.Ror (u a)) (sym none)
+
+      halves : (m : ℕ) → (64 - n) % 64 ≡ m → Many (s.Sh shift_op.Srli t a n ∷ s.Sh shift_op.Slli x a m ∷ s.Reg rop.Or x t x ∷ []) 3 x (shift sh_op.Ror (u a) n) t u
+      halves m is =
+          let low = shift sh_op.Shr (u a) n in
+          let high = shift sh_op.Shl (u a) m in
+          let u1 = write t low u in
+          let u2 = write x high u1 in
+          many_more _ _ 2 t low x (shift sh_op.Ror (u a) n) t u (one_sh shift_op.Srli t a n low u refl)
+          (many_more _ _ 1 x high x (shift sh_op.Ror (u a) n) t u1 (one_sh shift_op.Slli x a m high u1 (ap (λ l. shift sh_op.Shl l m) (write_other t low a u ne)))
+          (many_one _ 1 x _ t u2 (omega arith) (one_reg rop.Or x t x (shift sh_op.Ror (u a) n) u2
+          (ap (λ l. bit_or l (u2 x)) (write_other x high t u1 ne2 ∙ write_same t low u) ∙ ap (bit_or low) (write_same x high u1) ∙ ap (λ k. bit_or low (shift sh_op.Shl (u a) k)) (sym is))))
+          (λ y ne ne2. ne)) (λ y ne ne2. ne2)
+
+      by : (b : Bool) → nat_eq n 0 ≡ b
+          → Many (if b then s.Imm iop.Ori x a (pos 0) ∷ [] else s.Sh shift_op.Srli t a n ∷ s.Sh shift_op.Slli x a (64 - n) ∷ s.Reg rop.Or x t x ∷ []) 3 x (shift sh_op.Ror (u a) n) t u
+      by true e = many_one _ 3 x _ t u (omega arith) (one_imm iop.Ori x a (shift sh_op.Ror (u a) n) (pos 0) u (whole (grind (arith, nat_tests))))
+      by false e = let some : 1 ≤ n = grind (arith, nat_tests) in halves (64 - n) (omega (arith, some))

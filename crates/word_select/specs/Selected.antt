@@ -1,5 +1,5 @@
 -- The operations of steps. Each takes what is known of its operands; a step whose variable is then read no more still stands here (`Pruned`).
-use Rattle.std.specs.Prelude.{ℕ, pos, zero, suc, ◌-◌, ◌%◌, List, [], ◌∷◌, map, Option, Some, None}
+use Rattle.std.specs.Prelude.{ℕ, pos, zero, suc, ◌-◌, nat_eq, if◌then◌else◌, List, [], ◌∷◌, map, Option, Some, None}
 use Rattle.pan_base.specs.declared.operators.BinOp.{BinOp}
 use Rattle.pan_base.specs.declared.operators.BinOp.TheVariants as bin_op
 use Rattle.pan_base.specs.declared.operators.ShOp.{ShOp}
@@ -158,11 +158,17 @@ handler_of (Some h) = Some (record { exception = h.exception; variables = h.vari
 
 -- with t free for the other half of a word that is rotated
 module _ (t : ℕ) where
+  -- a word rotated by 0 is moved; else its halves are shifted apart, and then put together
+  abbrev pub rotation_steps : ℕ → ℕ → ℕ → List Stmt
+  rotation_steps x a n =
+      if nat_eq n 0 then s.Imm iop.Ori x a (pos 0) ∷ []
+      else s.Sh shift_op.Srli t a n ∷ s.Sh shift_op.Slli x a (64 - n) ∷ s.Reg rop.Or x t x ∷ []
+
   abbrev pub shift_steps : ShOp → ℕ → ℕ → ℕ → List Stmt
   shift_steps sh_op.Shl x a n = s.Sh shift_op.Slli x a n ∷ []
   shift_steps sh_op.Shr x a n = s.Sh shift_op.Srli x a n ∷ []
   shift_steps sh_op.Sar x a n = s.Sh shift_op.Srai x a n ∷ []
-  shift_steps sh_op.Ror x a n = s.Sh shift_op.Srli t a n ∷ s.Sh shift_op.Slli x a ((64 - n) % 64) ∷ s.Reg rop.Or x t x ∷ []
+  shift_steps sh_op.Ror x a n = rotation_steps x a n
 
   abbrev pub select_layer : Loop-F Selects → Selects
   select_layer o.Skip ps = record { stmt = s.Skip; facts = ps }

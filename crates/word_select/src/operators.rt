@@ -210,6 +210,19 @@ pub fn comparison(
     }
 }
 
+/// What a rotation to the right becomes: by 0 a move, else two shifts, the one into the variable that is free, and an OR.
+fn rotation(alloc: Global, free: u32, x: u32, a: u32, amount: u8) -> Result<List<Stmt>, NoMemory>
+    ensures { IfOk result (λ ss. ss ≡ selected.rotation_steps free x a amount) }
+{
+    if amount == 0 {
+        Ok(single(alloc, Stmt::Imm(IOp::Ori, x, a, 0))?)
+    } else {
+        let low = Stmt::Sh(ShiftOp::Srli, free, a, amount);
+        let high = Stmt::Sh(ShiftOp::Slli, x, a, 64u8.saturating_sub(amount));
+        three(alloc, low, high, Stmt::Reg(ROp::Or, x, free, x))
+    }
+}
+
 /// What a shift becomes, with a variable that is free for the other half of a word that is rotated.
 pub fn shift(
     alloc: Global,
@@ -225,10 +238,6 @@ pub fn shift(
         ShOp::Shl => single(alloc, Stmt::Sh(ShiftOp::Slli, x, a, amount)),
         ShOp::Shr => single(alloc, Stmt::Sh(ShiftOp::Srli, x, a, amount)),
         ShOp::Sar => single(alloc, Stmt::Sh(ShiftOp::Srai, x, a, amount)),
-        ShOp::Ror => {
-            let low = Stmt::Sh(ShiftOp::Srli, free, a, amount);
-            let high = Stmt::Sh(ShiftOp::Slli, x, a, 64u8.saturating_sub(amount) % 64);
-            three(alloc, low, high, Stmt::Reg(ROp::Or, x, free, x))
-        }
+        ShOp::Ror => rotation(alloc, free, x, a, amount),
     }
 }

@@ -1,10 +1,10 @@
-use Rattle.std.proofs.Common.{◌≡◌, ◌++◌, length}
+use Rattle.std.proofs.Common.{◌≡◌, ◌++◌, length, reverse}
 use Rattle.crep_flatten.specs.Flattened.{moves}
 use Rattle.crep_flatten.proofs.moving.push_moves.Given as goal
 
 -- what is left completes what is done
-abbrev pub invariant-loop-stmts : goal.invariant-loop-stmts
-invariant-loop-stmts l = l.stmts ++ moves l.variable l.words ≡ l.initial.stmts ++ moves l.first l.initial.words
+abbrev pub invariant-loop-word : goal.invariant-loop-word
+invariant-loop-word l = l.stmts ++ moves l.variable (reverse l.left) ≡ l.initial.stmts ++ moves l.initial.variable (reverse l.initial.left)
 
-abbrev pub decreases-loop-stmts : goal.decreases-loop-stmts
-decreases-loop-stmts l = length l.words
+abbrev pub decreases-loop-word : goal.decreases-loop-word
+decreases-loop-word l = length l.left

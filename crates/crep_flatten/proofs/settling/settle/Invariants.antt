@@ -3,11 +3,11 @@ use Rattle.crep_flatten.specs.Rows as rows_of
 use Rattle.crep_flatten.proofs.settling.settle.Given as goal
 
 -- what comes of the rows that are left completes what came of the others
-abbrev pub invariant-loop-alloc : goal.invariant-loop-alloc
-invariant-loop-alloc l =
-    (l.before ++ (rows_of.settle l.rows l.next).before ≡ (rows_of.settle l.initial.rows l.free).before)
-    × ((l.words ++ (rows_of.settle l.rows l.next).words ≡ (rows_of.settle l.initial.rows l.free).words)
-    × ((rows_of.settle l.rows l.next).next ≡ (rows_of.settle l.initial.rows l.free).next))
+abbrev pub invariant-loop-next : goal.invariant-loop-next
+invariant-loop-next l =
+    (l.before ++ (rows_of.settle l.left l.next).before ≡ (rows_of.settle l.initial.left l.free).before)
+    × ((l.words ++ (rows_of.settle l.left l.next).words ≡ (rows_of.settle l.initial.left l.free).words)
+    × ((rows_of.settle l.left l.next).next ≡ (rows_of.settle l.initial.left l.free).next))
 
-abbrev pub decreases-loop-alloc : goal.decreases-loop-alloc
-decreases-loop-alloc l = length l.rows
+abbrev pub decreases-loop-next : goal.decreases-loop-next
+decreases-loop-next l = length l.left

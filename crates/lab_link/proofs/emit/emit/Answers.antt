@@ -4,7 +4,10 @@ use Rattle.lab_link.proofs.Emitting.{emitted_more, place_low, same_length}
 use Rattle.lab_link.proofs.emit.emit.Goals as goal
 
 pub bounds-layout-i : goal.bounds-layout-i
-bounds-layout-i c = omega (arith, same_length c.args.lines.now c.args.layout.now c.requires.layout)
+bounds-layout-i c = omega (arith, same_length 0 c.args.lines.now c.args.layout.now c.requires.layout)
+
+pub bounds-layout-i-in-loop-i : goal.bounds-layout-i-in-loop-i
+bounds-layout-i-in-loop-i c = omega (arith, same_length 0 c.args.lines.now c.args.layout.now c.requires.layout)
 
 pub push_line-requires-clause-from : goal.push_line-requires-clause-from
 push_line-requires-clause-from c = place_low c.args.lines.now c.args.layout.now c.loop-i.i (0, 0) c.requires.layout c.requires.most (omega arith)

@@ -1,6 +1,6 @@
 use Rattle.std.proofs.Common.{sym, ◌∙◌}
-use Rattle.command_words.specs.declared.order.Action.TheVariants.{Compile, Check, Run, Meaning, Show, Dis}
-use Rattle.pan_command.proofs.Keeping.{compile_keeps, check_keeps, run_keeps, meaning_keeps, show_keeps, dis_keeps}
+use Rattle.command_words.specs.declared.order.Action.TheVariants.{Compile, Check, Run, Meaning, Show, Dis, Bound}
+use Rattle.pan_command.proofs.Keeping.{compile_keeps, check_keeps, run_keeps, meaning_keeps, show_keeps, dis_keeps, bound_keeps}
 use Rattle.pan_command.proofs.WordsGiven.{acts, usage_at, unlawful_at, failed_at}
 use Rattle.pan_command.proofs.command.panc.Goals as goal
 
@@ -36,3 +36,7 @@ returns-clause-show g c = λ source options given.
 pub returns-clause-dis : goal.returns-clause-dis
 returns-clause-dis g c = λ image options given.
     rw c.code.ensures (dis_keeps image _ c.act.result (acts c.args.words.now _ (Dis image) options c.act.result given c.act.ensures))
+
+pub returns-clause-bound : goal.returns-clause-bound
+returns-clause-bound g c = λ source options given.
+    rw c.code.ensures (bound_keeps source _ c.act.result (acts c.args.words.now _ (Bound source) options c.act.result given c.act.ensures))

@@ -17,4 +17,4 @@ returns g c =
     let mid : Outside = outside (g.W.Workspace.state c.load_built.new.files) (g.O.Sink.state c.load_built.new.out) in
     let after : Outside = outside (g.W.Workspace.state c.store.new.files) (g.O.Sink.state c.store.new.out) in
     let made : SourceBuilt before c.args.source.now = record { bytes = q.1.0; held = q.1.1; stages = c.in-Ok.built.stages; image = c.in-Ok.built.image; built = q.1.2 } in
-    compile_ends before mid after c.args.source.now c.args.image.now made q.0 q.1.3.writes q.1.3.out c.store.result (rw c.image.ensures at c.store.ensures)
+    compile_ends before mid after c.args.source.now c.args.image.now made q.0 q.1.3.writes q.1.3.out c.store.result (rw c.bytes.ensures at (rw c.image.ensures at c.store.ensures))

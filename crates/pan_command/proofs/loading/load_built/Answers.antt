@@ -15,7 +15,7 @@ returns-in-Ok-build g c =
     let held : Holds (g.W.Workspace.state c.args.files.now).files c.args.name.now bytes = rw c.as_slice.ensures q.1.0 in
     let one : OneReading = record { program = c.one_reading.ensures.program; reason = c.one_reading.ensures.reason; apart = c.one_reading.ensures.apart } in
     let b = c.in-Ok-build in
-    (q.0, (bytes, held, built_so one bytes b.built.stages b.built.image b.ensures.chained b.ensures.faithful b.ensures.in_time b.ensures.code, q.1.1))
+    (q.0, (bytes, held, built_so one bytes b.built.stages b.built.image b.ensures.chained b.ensures.faithful b.ensures.in_time b.ensures.code b.ensures.bounded, q.1.1))
 
 pub returns-in-Ok-put_source_line : goal.returns-in-Ok-put_source_line
 returns-in-Ok-put_source_line g c =

@@ -1,6 +1,7 @@
 use Rattle.std.proofs.Common.{subst, sym}
 use Rattle.pan_agree.specs.Faithful.{Faithful}
 use Rattle.pan_driver.specs.Chained.{parts}
+use Rattle.pan_driver.specs.Bounded.{IsBoundOf}
 use Rattle.pan_driver.specs.InTime.{IsInTime, IsShort}
 use Rattle.pan_driver.proofs.Sources.{refused_so, starved_so, told_so, not_refused, of_source_so}
 use Rattle.pan_driver.proofs.building.build.Goals as goal
@@ -27,6 +28,9 @@ returns-clause-in_time c = let b = c.in_ok-built.built in subst (λ p. IsInTime 
 
 pub returns-clause-code : goal.returns-clause-code
 returns-clause-code c = let b = c.in_ok-built.built in subst (λ p. IsShort p (parts b.stages)) (sym c.in_ok-built.ensures.chained.checked) c.in_ok-built.ensures.code
+
+pub returns-clause-bounded : goal.returns-clause-bounded
+returns-clause-bounded c = let b = c.in_ok-built.built in subst (λ p. IsBoundOf p (parts b.stages) b.stages.bound) (sym c.in_ok-built.ensures.chained.checked) c.in_ok-built.ensures.bounded
 
 pub returns-clause-exact : goal.returns-clause-exact
 returns-clause-exact c = λ e refused. absurd (not_refused _ c.in_ok-checked.checked c.in_ok-checked.ensures.exact e refused)

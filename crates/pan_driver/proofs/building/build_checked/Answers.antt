@@ -1,6 +1,7 @@
 use Rattle.std.proofs.Common.{subst}
 use Rattle.pan_agree.specs.Faithful.{Faithful}
 use Rattle.pan_driver.specs.Chained.{parts}
+use Rattle.pan_driver.specs.Bounded.{IsBoundOf}
 use Rattle.pan_driver.specs.InTime.{IsInTime, IsShort}
 use Rattle.pan_driver.proofs.building.build_checked.Goals as goal
 
@@ -21,3 +22,8 @@ pub returns-clause-code : goal.returns-clause-code
 returns-clause-code c =
     let s = c.in_ok-stages.stages in
     subst (λ p. IsShort p (parts s)) c.in_ok-stages.ensures.checked (c.chained_is_faithful.ensures.code s c.in_ok-stages.ensures.chained)
+
+pub returns-clause-bounded : goal.returns-clause-bounded
+returns-clause-bounded c =
+    let s = c.in_ok-stages.stages in
+    subst (λ p. IsBoundOf p (parts s) s.bound) c.in_ok-stages.ensures.checked (c.chained_is_faithful.ensures.bounded s c.in_ok-stages.ensures.chained)

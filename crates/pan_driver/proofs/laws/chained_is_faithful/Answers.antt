@@ -6,6 +6,7 @@ use Rattle.word_lang.specs.Stage as words
 use Rattle.crep_flatten.specs.Source as source
 use Rattle.pan_chain.specs.Whole.{machine_of}
 use Rattle.pan_driver.specs.Chained.{parts}
+use Rattle.pan_driver.proofs.Bounded.{bounded}
 use Rattle.pan_driver.proofs.Whole.{laid_out, kept, in_steps, executes, short, runs}
 use Rattle.pan_driver.proofs.laws.chained_is_faithful.Goals as goal
 
@@ -30,3 +31,8 @@ returns-clause-one_program c = λ bytes s t i j a b.
     let same = c.one_reading.ensures.program bytes s.checked t.checked a.checked b.checked in
     let faithful = returns-clause-faithful c in
     (same, faithful s i a.stages a.written, subst (λ p. Faithful p j (parts t)) (sym same) (faithful t j b.stages b.written))
+
+pub returns-clause-bounded : goal.returns-clause-bounded
+returns-clause-bounded c = λ s chained.
+    bounded c.chain.ensures.passes c.chain.ensures.frames c.renaming_keeps.ensures (λ memory stack replies t. c.machine_goes_on.ensures (parts t) memory stack replies) (λ memory replies t. c.source_meets_no_limit.ensures t.checked memory replies)
+    s chained s.bound chained.bound

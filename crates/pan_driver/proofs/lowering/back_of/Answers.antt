@@ -6,6 +6,9 @@ frames-requires c = c.requires
 pub returns-clause-stack : goal.returns-clause-stack
 returns-clause-stack c = c.in_ok-stack.ensures
 
+pub returns-clause-bound : goal.returns-clause-bound
+returns-clause-bound c = c.in_ok-bound.ensures
+
 pub returns-clause-lab : goal.returns-clause-lab
 returns-clause-lab c = c.in_ok-lab.ensures.keeps
 

@@ -10,5 +10,6 @@ returns c = record {
   stack = c.in_ok-rear.ensures.stack;
   lab = c.in_ok-rear.ensures.lab;
   fuel = c.in_ok-rear.ensures.fuel;
+  bound = c.in_ok-rear.ensures.bound;
   code = c.in_ok-rear.ensures.code;
 }

@@ -10,5 +10,6 @@ returns c = record {
   stack = c.in_ok-back.ensures.stack;
   lab = c.in_ok-back.ensures.lab;
   fuel = c.in_ok-back.ensures.fuel;
+  bound = c.in_ok-back.ensures.bound;
   code = c.in_ok-back.ensures.code;
 }

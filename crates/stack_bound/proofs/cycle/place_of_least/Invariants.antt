@@ -1,0 +1,6 @@
+use Rattle.std.proofs.Common.{◌<◌, ◌≤◌, ℕ, length, get_or}
+use Rattle.stack_bound.proofs.cycle.place_of_least.Given as goal
+
+-- it is the least so far
+abbrev pub invariant-loop-place : goal.invariant-loop-place
+invariant-loop-place l = (l.least < length l.numbers) × ((k : ℕ) → k < l.place → get_or l.numbers l.least 0 ≤ get_or l.numbers k 0)
